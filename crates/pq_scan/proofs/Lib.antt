@@ -1,6 +1,8 @@
+pub mod Asked
 pub mod Codes
 pub mod Columns
 pub mod Ends
+pub mod Fetching
 pub mod Filtered
 pub mod Merged
 pub mod Merging

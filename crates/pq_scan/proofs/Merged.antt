@@ -27,7 +27,7 @@ use Rattle.pq_serving.proofs.Found.{found_is}
 use Rattle.pq_serving.proofs.Scans.{sort_by-map}
 use Rattle.pq_serving.proofs.Whole.{stop_scans, position_codes}
 use Rattle.pq_scan.specs.declared.prepared.Scan.{Scan}
-use Rattle.pq_scan.specs.Candidates.{Candidate, row_candidate, all_candidates, AreCombosOf}
+use Rattle.pq_scan.specs.Candidates.{Candidate, held_of, row_candidate, all_candidates, place_in, kept_in, rows_behind, AreCombosOf}
 use Rattle.pq_scan.specs.Merging.{place_of}
 use Rattle.pq_scan.specs.Prepared.{asked_over, item_directions, IsScannable}
 use Rattle.pq_scan.proofs.Told.{map_map}
@@ -89,6 +89,9 @@ module _ (scan : Scan) (ready : IsScannable scan) (rows : Rows) (after : Option 
 
   abbrev as_combo : Triple → List (List Value)
   as_combo t = t.1 ++ t.2 ∷ []
+
+  abbrev row_in : Triple → List Value
+  row_in t = t.2
 
   candidates_of : (place : ℕ) (inputs : List (List (List Value))) → all_candidates scan rows k after place inputs ≡ map as_candidate (triples place inputs)
   candidates_of place [] = refl
@@ -169,17 +172,23 @@ module _ (scan : Scan) (ready : IsScannable scan) (rows : Rows) (after : Option 
         ∙ subst (λ (s : List KeyPart). take k (in_order q (flat_map (scanned q p s k after) inputs)) ≡ first_past q after k (in_order q (read q p inputs))) (sym ready.sound.sequence_is)
         (sym (stop_scans q p is scan.access ready.serves after cursor k inputs (longs inputs fit)))
 
-    fetched : (ts : List Triple) → AllByRecursion (IsTriple 0 inputs) ts → (found : List (List (List Value))) → AreCombosOf scan told inputs (map as_candidate ts) found → found ≡ map as_combo ts
-    fetched [] g [] a = refl
-    fetched [] g (f ∷ fs) a = absurd a
-    fetched (t ∷ ts) g [] a = absurd a
-    fetched (t ∷ ts) g (f ∷ fs) a =
+    rows_there : (ts : List Triple) → AllByRecursion (IsTriple 0 inputs) ts → AllByRecursion (λ row. In row (rows_of scan.number rows)) (map row_in ts)
+    rows_there [] g = tt
+    rows_there (t ∷ ts) g = let triple = g.0 in (subst (λ (n : ℕ). In t.2 (rows_of n rows)) (sym ready.sound.number_is) triple.row, rows_there ts g.1)
+
+    behind_are : (ts : List Triple) → AllByRecursion (IsTriple 0 inputs) ts → rows_behind inputs (map place_in (map as_candidate ts)) (map row_in ts) ≡ map as_combo ts
+    behind_are [] g = refl
+    behind_are (t ∷ ts) g =
         let triple = g.0 in
-        let row = subst (λ (n : ℕ). In t.2 (rows_of n rows)) (sym ready.sound.number_is) triple.row in
         let e = triple.is_at in
         let place : t.0 ≡ triple.at = omega arith in
-        let one : f ≡ t.1 ++ t.2 ∷ [] = a.0 rows others t.2 h row refl ∙ ap (λ (n : ℕ). get_or inputs n [] ++ t.2 ∷ []) place ∙ ap (λ c. c ++ t.2 ∷ []) triple.input in
-        λ i. one i ∷ fetched ts g.1 fs a.1 i
+        let one : get_or inputs t.0 [] ++ t.2 ∷ [] ≡ t.1 ++ t.2 ∷ [] = ap (λ (n : ℕ). get_or inputs n [] ++ t.2 ∷ []) place ∙ ap (λ c. c ++ t.2 ∷ []) triple.input in
+        λ i. one i ∷ behind_are ts g.1 i
+
+    fetched : (ts : List Triple) → AllByRecursion (IsTriple 0 inputs) ts → (found : List (List (List Value))) → AreCombosOf scan told inputs (map as_candidate ts) found → found ≡ map as_combo ts
+    fetched ts g found a =
+        a rows others (map row_in ts) h (rows_there ts g) (map_map as_candidate kept_in ts ∙ sym (map_map row_in (held_of scan.access scan.sequence) ts))
+        ∙ behind_are ts g
 
     pub stop_scan_made : (candidates first : List Candidate) → candidates ≡ all_candidates scan rows k after 0 inputs → first ≡ take k (sort_by key_cmp place_of candidates) → (found : List (List (List Value))) → AreCombosOf scan told inputs first found → found ≡ first_past q after k (in_order q (read q p inputs))
     stop_scan_made candidates first same cut found a =

@@ -46,7 +46,7 @@ pub map_map : {A B D : Type 0} (f : A → B) (g : B → D) (xs : List A) → map
 map_map f g [] = refl
 map_map f g (x ∷ xs) = ap (λ l. g (f x) ∷ l) (map_map f g xs)
 
-map_self : {A : Type 0} (xs : List A) → map (λ x. x) xs ≡ xs
+pub map_self : {A : Type 0} (xs : List A) → map (λ x. x) xs ≡ xs
 map_self [] = refl
 map_self (x ∷ xs) = ap (λ l. x ∷ l) (map_self xs)
 

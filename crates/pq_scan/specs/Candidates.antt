@@ -1,5 +1,6 @@
 -- What a scan finds for its inputs.
 use Rattle.std.specs.Prelude.{◌≡◌, ℕ, ◌+◌, ◌<◌, List, [], ◌∷◌, ◌++◌, map, drop, count_ones, slice_index_or, Option}
+use Rattle.std.specs.List.{AllByRecursion}
 use Rattle.pq_base.specs.Members.{In}
 use Rattle.pq_base.specs.Values.{AllFit}
 use Rattle.pq_base.specs.declared.value.Value.{Value}
@@ -110,21 +111,34 @@ abbrev pub fetches : Access → ℕ → ℕ
 fetches Primary count = 0
 fetches (Secondary index) count = count
 
--- over a content that holds rows it is the row of which this was kept
-abbrev pub IsRowOf : Scan → Option Content → List Value → List Value → Type 0
-IsRowOf scan told held found =
-    (rows : Rows) (others : List Pair) (row : List Value) → HoldsRows told scan.catalog.now.tables rows others
-    → In row (rows_of scan.number rows) → held ≡ held_of scan.access scan.sequence row → found ≡ row
+-- the place of a candidate's input, and what was kept of its row
+abbrev pub place_in : Candidate → ℕ
+place_in candidate = candidate.item.input
 
--- and behind its input, where the candidate is of a row
-abbrev pub IsComboOf : Scan → Option Content → List (List (List Value)) → Candidate → List (List Value) → Type 0
-IsComboOf scan told inputs candidate found =
-    (rows : Rows) (others : List Pair) (row : List Value) → HoldsRows told scan.catalog.now.tables rows others
-    → In row (rows_of scan.number rows) → candidate.item.held ≡ held_of scan.access scan.sequence row
-    → found ≡ slice_index_or inputs candidate.item.input [] ++ row ∷ []
+abbrev pub kept_in : Candidate → List Value
+kept_in candidate = candidate.item.held
 
+-- over a content that holds rows they are the rows of which these were kept
+abbrev pub AreRowsOf : Scan → Option Content → List (List Value) → List (List Value) → Type 0
+AreRowsOf scan told held found =
+    (rows : Rows) (others : List Pair) (wanted : List (List Value))
+    → HoldsRows told scan.catalog.now.tables rows others
+    → AllByRecursion (λ row. In row (rows_of scan.number rows)) wanted
+    → held ≡ map (held_of scan.access scan.sequence) wanted → found ≡ wanted
+
+-- each row behind the input at its place
+abbrev pub rows_behind : List (List (List Value)) → List ℕ → List (List Value) → List (List (List Value))
+rows_behind inputs places [] = []
+rows_behind inputs [] (row ∷ rows) = []
+rows_behind inputs (place ∷ places) (row ∷ rows) =
+    (slice_index_or inputs place [] ++ row ∷ []) ∷ rows_behind inputs places rows
+
+-- and behind their inputs, where the candidates are of rows
 abbrev pub AreCombosOf : Scan → Option Content → List (List (List Value)) → List Candidate
     → List (List (List Value)) → Type 0
-AreCombosOf scan told inputs [] [] = Unit {0}
-AreCombosOf scan told inputs (c ∷ cs) (f ∷ fs) = IsComboOf scan told inputs c f × AreCombosOf scan told inputs cs fs
-AreCombosOf scan told inputs _ _ = ⊥
+AreCombosOf scan told inputs candidates found =
+    (rows : Rows) (others : List Pair) (wanted : List (List Value))
+    → HoldsRows told scan.catalog.now.tables rows others
+    → AllByRecursion (λ row. In row (rows_of scan.number rows)) wanted
+    → map kept_in candidates ≡ map (held_of scan.access scan.sequence) wanted
+    → found ≡ rows_behind inputs (map place_in candidates) wanted

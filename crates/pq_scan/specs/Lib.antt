@@ -1,3 +1,4 @@
+pub mod Asked
 pub mod Candidates
 pub mod Ends
 pub mod Inputs

@@ -1,5 +1,5 @@
 //! The rows of candidates, behind their inputs.
-ghost use Rattle.std.specs.Prelude.{◌≡◌, ◌≤◌, ◌<◌, ◌-◌, ◌+◌, ◌++◌, ◌∷◌, [], length, IfOk, IfErr};
+ghost use Rattle.std.specs.Prelude.{◌≡◌, ◌<◌, ◌++◌, ◌∷◌, [], map, length, IfOk, IfErr};
 ghost use Rattle.std.specs.List.{AllByRecursion};
 ghost use Rattle.pq_base.specs.Values.{AllFit};
 ghost use Rattle.pq_schema.specs.Rows.{types_of};
@@ -8,48 +8,76 @@ ghost use Rattle.pq_calls.specs.Calls.{Uses, Fails};
 ghost use Rattle.pq_calls.specs.World.{Affords, where_told};
 ghost use Rattle.pq_nodes.specs.Combos.{FitsTables};
 ghost use Rattle.pq_nodes.specs.Operators.{AreInputs, ShowsRead};
-ghost use Rattle.pq_scan.specs.Candidates.{scanned_table, IsHeld, IsCandidate, IsRowOf, IsComboOf, AreCombosOf, fetches};
+ghost use Rattle.pq_scan.specs.Candidates.{scanned_table, kept_in, place_in, IsHeld, IsCandidate, AreRowsOf, AreCombosOf, rows_behind, fetches};
 ghost use Rattle.pq_scan.specs.Prepared.{IsScannable};
 
-use crate::candidates::Candidate;
+use crate::candidates::{Candidate, Found};
+use crate::merge::Placed;
 use crate::prepared::Scan;
 use pq_base::{List, NoMem, Row};
 use pq_calls::Calls;
-use pq_entries::named_row;
+use pq_entries::named_rows;
 use pq_plan::Combo;
 use pq_schema::Access;
 use pq_store::{Broke, Store};
 use std::alloc::Global;
 use std::sync::ledger::Ledger;
 
-/// The row of which something was kept: itself, or the row that the entry with these values names.
-fn row_of<S: Store<L>, L: Ledger>(
+/// The places of candidates' inputs, and what was kept of their rows.
+#[derive(Drop)]
+struct Kept {
+    places: List<usize>,
+    held: List<Row>,
+}
+
+/// Candidates without the codes of their positions.
+fn kept_of(alloc: Global, candidates: List<Candidate>) -> Result<Kept, NoMem>
+    ensures places { IfOk result (λ kept. kept.places ≡ map place_in candidates) }
+    ensures held { IfOk result (λ kept. kept.held ≡ map kept_in candidates) }
+{
+    let count = candidates.items().len();
+    let mut places = List::with_room(alloc, count)?;
+    let mut rows = List::with_room(alloc, count)?;
+    for candidate in candidates.into_vec() {
+        let Placed { item, .. } = candidate;
+        let Found { input, held } = item;
+        places.push(alloc, input)?;
+        rows.push(alloc, held)?;
+    }
+    Ok(Kept { places, held: rows })
+}
+
+/// The rows of which something was kept: themselves, or those that the entries with these values name, which
+/// are asked for at once.
+fn rows_of<S: Store<L>, L: Ledger>(
     alloc: Global,
     scan: &Scan<'_>,
-    held: &Row,
+    held: List<Row>,
     calls: &mut Calls<S, L>,
-) -> Result<Row, Broke>
+) -> Result<List<Row>, Broke>
     requires ready { IsScannable scan.now }
-    requires held { IsHeld scan.now (S.content calls.old.store.now) held.now }
-    requires share { Affords calls.old.allowance.now (fetches scan.now.access 1) (fetches scan.now.access 1) }
-    ensures uses { Uses S.content S.faults calls.old calls.new (fetches scan.now.access 1)
-        (fetches scan.now.access 1) }
+    requires held { AllByRecursion (IsHeld scan.now (S.content calls.old.store.now)) held }
+    requires share { Affords calls.old.allowance.now (fetches scan.now.access (length held))
+        (fetches scan.now.access (length held)) }
+    ensures uses { Uses S.content S.faults calls.old calls.new (fetches scan.now.access (length held))
+        (fetches scan.now.access (length held)) }
     ensures cause { IfErr result (Fails (where_told
         (ShowsRead scan.now.catalog.now.tables)) S.content S.faults calls.old calls.new) }
     ensures answered { IfErr result (IsAnswered S.answers) }
-    ensures fits { IfOk result (AllFit (types_of (scanned_table scan.now))) }
-    ensures answer { IfOk result (IsRowOf scan.now (S.content calls.old.store.now) held.now) }
+    ensures long { IfOk result (λ rows. length rows ≡ length held) }
+    ensures fit { IfOk result (AllByRecursion (AllFit (types_of (scanned_table scan.now)))) }
+    ensures answer { IfOk result (AreRowsOf scan.now (S.content calls.old.store.now) held) }
 {
     match scan.access {
-        Access::Primary => Ok(held.copy(alloc)?),
-        Access::Secondary(index) => Ok(named_row(
+        Access::Primary => Ok(held),
+        Access::Secondary(index) => named_rows(
             alloc,
             scan.catalog,
             scan.number,
             index,
-            held,
+            held.items(),
             calls,
-        )?),
+        ),
     }
 }
 
@@ -62,28 +90,25 @@ fn behind(alloc: Global, input: &Combo, row: Row) -> Result<Combo, NoMem>
     Ok(combo)
 }
 
-/// The row of a candidate behind its input.
-fn combo_of<S: Store<L>, L: Ledger>(
+/// Each row behind the rows of the input at its place.
+fn behind_each(
     alloc: Global,
-    scan: &Scan<'_>,
     inputs: &[Combo],
-    candidate: &Candidate,
-    calls: &mut Calls<S, L>,
-) -> Result<Combo, Broke>
-    requires ready { IsScannable scan.now }
-    requires inputs { AreInputs scan.now.catalog.now.tables scan.now.query.now scan.now.rel inputs.now }
-    requires candidate { IsCandidate scan.now (S.content calls.old.store.now) (length inputs.now) candidate.now }
-    requires share { Affords calls.old.allowance.now (fetches scan.now.access 1) (fetches scan.now.access 1) }
-    ensures uses { Uses S.content S.faults calls.old calls.new (fetches scan.now.access 1)
-        (fetches scan.now.access 1) }
-    ensures cause { IfErr result (Fails (where_told
-        (ShowsRead scan.now.catalog.now.tables)) S.content S.faults calls.old calls.new) }
-    ensures answered { IfErr result (IsAnswered S.answers) }
-    ensures fits { IfOk result (FitsTables scan.now.catalog.now.tables scan.now.query.now scan.now.rel) }
-    ensures answer { IfOk result (IsComboOf scan.now (S.content calls.old.store.now) inputs.now candidate.now) }
+    places: &[usize],
+    rows: List<Row>,
+) -> Result<List<Combo>, NoMem>
+    requires there { AllByRecursion (λ place. place < length inputs.now) places.now }
+    requires alike { length rows ≡ length places.now }
+    ensures { IfOk result (λ found. found ≡ rows_behind inputs.now places.now rows) }
 {
-    let row = row_of(alloc, scan, &candidate.item.held, calls)?;
-    Ok(behind(alloc, &inputs[candidate.item.input], row)?)
+    let mut found = List::new(alloc);
+    let mut at = 0;
+    for row in rows.into_vec() {
+        let combo = behind(alloc, &inputs[places[at]], row)?;
+        found.push(alloc, combo)?;
+        at += 1;
+    }
+    Ok(found)
 }
 
 /// The rows of candidates behind their inputs, in the order of the candidates.
@@ -91,29 +116,26 @@ pub(crate) fn combos_of<S: Store<L>, L: Ledger>(
     alloc: Global,
     scan: &Scan<'_>,
     inputs: &[Combo],
-    candidates: &[Candidate],
+    candidates: List<Candidate>,
     calls: &mut Calls<S, L>,
 ) -> Result<List<Combo>, Broke>
     requires ready { IsScannable scan.now }
     requires inputs { AreInputs scan.now.catalog.now.tables scan.now.query.now scan.now.rel inputs.now }
     requires candidates { AllByRecursion (IsCandidate scan.now (S.content calls.old.store.now)
-        (length inputs.now)) candidates.now }
-    requires share { Affords calls.old.allowance.now (fetches scan.now.access (length candidates.now))
-        (fetches scan.now.access (length candidates.now)) }
+        (length inputs.now)) candidates }
+    requires share { Affords calls.old.allowance.now (fetches scan.now.access (length candidates))
+        (fetches scan.now.access (length candidates)) }
     ensures uses { Uses S.content S.faults calls.old calls.new (fetches scan.now.access
-        (length candidates.now)) (fetches scan.now.access (length candidates.now)) }
+        (length candidates)) (fetches scan.now.access (length candidates)) }
     ensures cause { IfErr result (Fails (where_told
         (ShowsRead scan.now.catalog.now.tables)) S.content S.faults calls.old calls.new) }
     ensures answered { IfErr result (IsAnswered S.answers) }
-    ensures size { IfOk result (λ found. length found ≡ length candidates.now) }
+    ensures size { IfOk result (λ found. length found ≡ length candidates) }
     ensures fit { IfOk result (AllByRecursion
         (FitsTables scan.now.catalog.now.tables scan.now.query.now scan.now.rel)) }
-    ensures answer { IfOk result (AreCombosOf scan.now (S.content calls.old.store.now) inputs.now candidates.now) }
+    ensures answer { IfOk result (AreCombosOf scan.now (S.content calls.old.store.now) inputs.now candidates) }
 {
-    let mut found = List::new(alloc);
-    for candidate in candidates {
-        let combo = combo_of(alloc, scan, inputs, candidate, calls)?;
-        found.push(alloc, combo)?;
-    }
-    Ok(found)
+    let Kept { places, held } = kept_of(alloc, candidates)?;
+    let rows = rows_of(alloc, scan, held, calls)?;
+    Ok(behind_each(alloc, inputs, places.items(), rows)?)
 }

@@ -12,10 +12,11 @@ ghost use Rattle.pq_scan.specs.Candidates.{IsCandidate, AreCandidates};
 ghost use Rattle.pq_scan.specs.Merging.{place_of};
 ghost use Rattle.pq_scan.specs.Prepared.{IsScannable};
 
+use crate::asks::asks_of;
 use crate::candidates::Candidate;
 use crate::merge::Heads;
 use crate::prepared::Scan;
-use crate::reads::scan_input;
+use crate::reads::add_found;
 use pq_base::{List, NoMem, Row};
 use pq_calls::Calls;
 use pq_plan::Combo;
@@ -23,8 +24,8 @@ use pq_store::{Broke, Store};
 use std::alloc::Global;
 use std::sync::ledger::Ledger;
 
-/// What a scan finds for all inputs, in their order: for each input at most one operation, and at most
-/// `limit` entries.
+/// What a scan finds for all inputs, in their order, asked for at once: for each input at most one operation,
+/// and at most `limit` entries.
 pub(crate) fn gather<S: Store<L>, L: Ledger>(
     alloc: Global,
     scan: &Scan<'_>,
@@ -47,16 +48,16 @@ pub(crate) fn gather<S: Store<L>, L: Ledger>(
     ensures answer { IfOk result (AreCandidates scan.now (S.content calls.old.store.now) limit
         (option_copied after.entry) inputs.now) }
 {
+    let asks = asks_of(alloc, scan, inputs, after)?;
+    let parts = calls.ranges(alloc, asks.ranges.items(), limit)?;
     let mut found = List::new(alloc);
     for place in 0..inputs.len() {
-        scan_input(
+        add_found(
             alloc,
             scan,
+            asks.constants.items()[place].items(),
             place,
-            &inputs[place],
-            after,
-            limit,
-            calls,
+            parts.items()[place].items(),
             &mut found,
         )?;
     }

@@ -23,6 +23,7 @@ use pq_operands::{side, tied_cells};
 use pq_plan::Combo;
 use pq_predicates::belongs_to;
 use pq_schema::{Access, KeyPart, Pred};
+use pq_store::Ends;
 use std::alloc::Global;
 use std::cmp::Ordering;
 
@@ -347,14 +348,7 @@ pub(crate) fn input_of(alloc: Global, scan: &Scan<'_>, combo: &Combo) -> Result<
     Ok(Input { ties, constants })
 }
 
-/// The keys from which an input's range starts, and before which it ends.
-#[derive(Drop)]
-pub(crate) struct Ends {
-    pub low: Bytes,
-    pub high: Bytes,
-}
-
-/// The ends of an input's range, strictly after a cursor.
+/// The keys from which an input's range starts, strictly after a cursor, and before which it ends.
 pub(crate) fn ends_of(
     alloc: Global,
     scan: &Scan<'_>,

@@ -48,12 +48,12 @@ fn run<S: Store<L>, L: Ledger>(
 {
     let found = gather(alloc, scan, inputs, after, k as u32, calls)?;
     let first = first_few(alloc, found, k as usize)?;
-    Ok(combos_of(alloc, scan, inputs, first.items(), calls)?)
+    Ok(combos_of(alloc, scan, inputs, first, calls)?)
 }
 
 /// The first `k` combinations by position, of an input and a row of the relation each, strictly after the
-/// cursor: for each input that passes one range of at most `k` rows or entries, what is found in the order
-/// of positions and cut, and then the rows of the entries.
+/// cursor: for each input that passes one range of at most `k` rows or entries, all asked for at once, what is
+/// found in the order of positions and cut, and then the rows of the entries, asked for at once.
 pub fn scan_inputs<S: Store<L>, L: Ledger>(
     alloc: Global,
     catalog: &Catalog,

@@ -1,37 +1,41 @@
-use Rattle.std.proofs.Common.{◌+◌, length, Option, sym, ap, subst, ◌∙◌}
-use Rattle.std.proofs.lemmas.List.{length-append}
-use Rattle.pq_calls.proofs.Steps.{rest_left}
-use Rattle.pq_nodes.specs.Combos.{FitsTables}
-use Rattle.pq_store.specs.Content.{Content}
+use Rattle.std.proofs.Common.{◌≡◌, ℕ, List, length, sym, ap, ◌∙◌, subst}
+use Rattle.std.proofs.lemmas.List.{length-map}
 use Rattle.std.specs.List.{AllByRecursion}
-use Rattle.pq_scan.specs.Candidates.{IsCandidate, IsComboOf}
-use Rattle.pq_scan.proofs.Steps.{uses_then, fetches_more, fetches_next, each_last, each_at, combos_more}
+use Rattle.pq_base.specs.Values.{AllFit}
+use Rattle.pq_base.specs.declared.value.Value.{Value}
+use Rattle.pq_schema.specs.Rows.{types_of}
+use Rattle.pq_schema.specs.Tables.{table_at}
+use Rattle.pq_nodes.specs.Combos.{FitsTables}
+use Rattle.pq_scan.specs.Candidates.{place_in, kept_in}
+use Rattle.pq_scan.proofs.Fetching.{kept_held, places_there, behind_length, behind_fit}
 use Rattle.pq_scan.proofs.fetch.combos_of.Goals as goal
 
-pub combo_of-requires-clause-candidate : goal.combo_of-requires-clause-candidate
-combo_of-requires-clause-candidate g c =
-    subst (λ (o : Option Content). IsCandidate c.args.scan.now o (length c.args.inputs.now) c.candidate-item.result) (sym c.loop-candidate.invariant.uses.reads.same)
-    (each_at _ c.args.candidates.now c.loop-candidate.candidate-index c.candidate-item.result c.requires.candidates c.loop-candidate-test.true c.candidate-item.is)
+pub rows_of-requires-clause-held : goal.rows_of-requires-clause-held
+rows_of-requires-clause-held g c =
+    kept_held c.args.scan.now (g.S.Store.content c.args.calls.now.store.now) (length c.args.inputs.now) c.args.candidates c.requires.candidates
+    c.in_ok-places.field-0.held c.in_ok-places.ensures.held
 
-pub combo_of-requires-clause-share : goal.combo_of-requires-clause-share
-combo_of-requires-clause-share g c =
-    let next = fetches_next c.args.scan.now.access c.loop-candidate.candidate-index (length c.args.candidates.now) c.loop-candidate-test.true in
-    rest_left _ _ _ _ _ _ _ _ c.loop-candidate.invariant.uses.reads c.requires.share next next
+pub behind_each-requires-clause-there : goal.behind_each-requires-clause-there
+behind_each-requires-clause-there g c =
+    places_there c.args.scan.now (g.S.Store.content c.args.calls.now.store.now) (length c.args.inputs.now) c.args.candidates c.requires.candidates
+    c.items.result.now (c.items.ensures ∙ c.in_ok-places.ensures.places)
 
-pub loop-candidate-preserved : goal.loop-candidate-preserved
-loop-candidate-preserved g c =
-    let more = fetches_more c.args.scan.now.access c.loop-candidate.candidate-index in
-    let told = g.S.Store.content c.args.calls.now.store.now in
-    record {
-      uses = uses_then g.S.Store.content g.S.Store.faults _ _ _ _ _ _ _ _ _ c.loop-candidate.invariant.uses c.combo_of.ensures.uses more more;
-      size = ap length c.in_ok-push.ensures.ok ∙ length-append c.loop-candidate.found _ ∙ ap (λ n. n + 1) c.loop-candidate.invariant.size;
-      fit = subst (λ l. AllByRecursion (FitsTables c.args.scan.now.catalog.now.tables c.args.scan.now.query.now c.args.scan.now.rel) l) (sym c.in_ok-push.ensures.ok) (each_last _ c.loop-candidate.found c.in_ok-combo.combo c.loop-candidate.invariant.fit c.in_ok-combo.ensures.fits);
-      answer = combos_more c.args.scan.now told c.args.inputs.now c.args.candidates.now c.loop-candidate.candidate-index c.candidate-item.result c.loop-candidate.found c.push.new.self c.in_ok-combo.combo c.loop-candidate-test.true c.candidate-item.is c.loop-candidate.invariant.answer
-          (subst (λ (o : Option Content). IsComboOf c.args.scan.now o c.args.inputs.now c.candidate-item.result c.in_ok-combo.combo) c.loop-candidate.invariant.uses.reads.same c.in_ok-combo.ensures.answer)
-          c.in_ok-push.ensures.ok;
-    }
+pub returns-clause-size : goal.returns-clause-size
+returns-clause-size g c =
+    let rows = c.in_ok-rows.rows in
+    let candidates = c.args.candidates in
+    let places = c.items.result.now in
+    let as_held : length rows ≡ length candidates = c.in_ok-rows.ensures.long ∙ ap (λ (l : List (List Value)). length l) c.in_ok-places.ensures.held ∙ length-map candidates kept_in in
+    let as_placed : length places ≡ length candidates = ap (λ (l : List ℕ). length l) (c.items.ensures ∙ c.in_ok-places.ensures.places) ∙ length-map candidates place_in in
+    ap (λ (l : List (List (List Value))). length l) c.in_ok-behind_each.ensures
+    ∙ behind_length c.args.inputs.now places rows (as_held ∙ sym as_placed) ∙ as_held
 
-pub returns-in_err-combo-clause-uses : goal.returns-in_err-combo-clause-uses
-returns-in_err-combo-clause-uses g c =
-    let next = fetches_next c.args.scan.now.access c.loop-candidate.candidate-index (length c.args.candidates.now) c.loop-candidate-test.true in
-    uses_then g.S.Store.content g.S.Store.faults _ _ _ _ _ _ _ _ _ c.loop-candidate.invariant.uses c.combo_of.ensures.uses next next
+pub returns-clause-fit : goal.returns-clause-fit
+returns-clause-fit g c =
+    let scan = c.args.scan.now in
+    let tables = scan.catalog.now.tables in
+    let rows = c.in_ok-rows.rows in
+    let there = places_there scan (g.S.Store.content c.args.calls.now.store.now) (length c.args.inputs.now) c.args.candidates c.requires.candidates c.items.result.now (c.items.ensures ∙ c.in_ok-places.ensures.places) in
+    subst (AllByRecursion (FitsTables tables scan.query.now scan.rel)) (sym c.in_ok-behind_each.ensures)
+    (behind_fit c.args.inputs.now tables scan.query.now scan.rel c.requires.ready.relation.from_one c.requires.inputs c.items.result.now there rows
+    (subst (λ (n : ℕ). AllByRecursion (AllFit (types_of (table_at tables n))) rows) c.requires.ready.sound.number_is c.in_ok-rows.ensures.fit))

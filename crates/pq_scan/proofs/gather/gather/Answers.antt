@@ -1,51 +1,82 @@
-use Rattle.std.proofs.Common.{◌+◌, ◌*◌, ◌≤◌, ◌<◌, ℕ, length, Option, sym, subst, arith}
-use Rattle.std.proofs.Math.Nat.{mul-le-mul_left}
+use Rattle.std.proofs.Common.{◌≤◌, List, length, get_or, [], subst, arith}
+use Rattle.std.proofs.lemmas.List.{take_all}
+use Rattle.std.proofs.lemmas.Result.{err_from_is_err_and}
 use Rattle.std.specs.Option.{option_copied}
-use Rattle.std.specs.List.{AllByRecursion}
-use Rattle.pq_store.specs.Content.{Content}
-use Rattle.pq_calls.proofs.Steps.{rest_left}
-use Rattle.pq_scan.specs.Candidates.{IsCandidate, AddsCandidates}
-use Rattle.pq_scan.proofs.Steps.{uses_then, each_at, candidates_more}
+use Rattle.pq_base.specs.declared.value.Value.{Value}
+use Rattle.pq_store.specs.Content.{AreAnswers}
+use Rattle.pq_store.specs.Rounds.{ArePairsOf, IsPartAsked}
+use Rattle.pq_calls.specs.Calls.{seen_world}
+use Rattle.pq_scan.specs.Candidates.{AreCandidates}
+use Rattle.pq_scan.proofs.Asked.{fronts_there, found_stops, found_answered, found_adds, found_kept, combo_here, constants_here, pairs_here, each_here}
+use Rattle.pq_scan.proofs.Steps.{each_at, candidates_more}
 use Rattle.pq_scan.proofs.gather.gather.Goals as goal
 
--- one more share
-more_share : (i k : ℕ) → i * k + k ≤ (i + 1) * k
-more_share i k = omega arith
+pub add_found-requires-clause-front : goal.add_found-requires-clause-front
+add_found-requires-clause-front g c =
+    let scan = c.args.scan.now in
+    let after = option_copied c.args.after in
+    let inputs = c.args.inputs.now in
+    let place = c.loop-place.place in
+    fronts_there scan after (get_or inputs place []) c.args.limit c.items-in-loop-place-4.result.now
+    (pairs_here scan after inputs place c.loop-place-test.true _ _ _ _ _ _ c.items.ensures c.in_ok-asks.ensures.ranges c.items-in-loop-place-3.ensures c.index-items-place-in-loop-place.is c.items-in-loop-place-4.ensures
+    (IsPartAsked c.args.limit) c.in_ok-parts.ensures.parts)
 
-next_within : (i n : ℕ) → i < n → i + 1 ≤ n
-next_within i n h = omega arith
+pub returns-in_err-add_found-clause-cause : goal.returns-in_err-add_found-clause-cause
+returns-in_err-add_found-clause-cause g c =
+    let scan = c.args.scan.now in
+    let after = option_copied c.args.after in
+    let inputs = c.args.inputs.now in
+    let place = c.loop-place.place in
+    let told = g.S.Store.content c.args.calls.now.store.now in
+    let p = err_from_is_err_and c.from_residual-in_err-add_found.result c.from_residual-in_err-add_found.ensures.1 in
+    rw (p.1, p.2)
+    (found_stops scan after (get_or inputs place []) c.args.limit c.items-in-loop-place-4.result.now
+    (pairs_here scan after inputs place c.loop-place-test.true _ _ _ _ _ _ c.items.ensures c.in_ok-asks.ensures.ranges c.items-in-loop-place-3.ensures c.index-items-place-in-loop-place.is c.items-in-loop-place-4.ensures
+    (IsPartAsked c.args.limit) c.in_ok-parts.ensures.parts)
+    (seen_world g.S.Store.content g.S.Store.faults c.args.calls.now) (seen_world g.S.Store.content g.S.Store.faults c.ranges-2.new.self)
+    (pairs_here scan after inputs place c.loop-place-test.true _ _ _ _ _ _ c.items.ensures c.in_ok-asks.ensures.ranges c.items-in-loop-place-3.ensures c.index-items-place-in-loop-place.is c.items-in-loop-place-4.ensures
+    (ArePairsOf told c.args.limit) c.in_ok-parts.ensures.answer)
+    c.in_err-add_found.field-0.0 c.in_err-add_found.ensures.cause c.in_err-add_found.ensures.tells)
 
-within_share : (i n k : ℕ) → i < n → i * k + k ≤ n * k
-within_share i n k h = let one : i + 1 ≤ n = omega arith in omega (arith, mul-le-mul_left k one)
-
-pub scan_input-requires-clause-input : goal.scan_input-requires-clause-input
-scan_input-requires-clause-input g c = each_at _ c.args.inputs.now c.loop-place.place c.index-inputs-place.result c.requires.inputs c.loop-place-test.true c.index-inputs-place.is
-
-pub scan_input-requires-clause-share : goal.scan_input-requires-clause-share
-scan_input-requires-clause-share g c =
-    let one : c.loop-place.place + 1 ≤ length c.args.inputs.now = next_within c.loop-place.place (length c.args.inputs.now) c.loop-place-test.true in
-    rest_left _ _ _ _ _ _ _ _ c.loop-place.invariant.uses.reads c.requires.share one (within_share c.loop-place.place (length c.args.inputs.now) c.args.limit c.loop-place-test.true)
+pub returns-in_err-add_found-clause-answered : goal.returns-in_err-add_found-clause-answered
+returns-in_err-add_found-clause-answered g c =
+    let scan = c.args.scan.now in
+    let after = option_copied c.args.after in
+    let inputs = c.args.inputs.now in
+    let place = c.loop-place.place in
+    let pairs = c.items-in-loop-place-4.result.now in
+    let p = err_from_is_err_and c.from_residual-in_err-add_found.result c.from_residual-in_err-add_found.ensures.1 in
+    rw (p.1, p.2)
+    (found_answered g.S.Store.answers pairs
+    (each_here scan after inputs place c.loop-place-test.true _ _ _ _ _ pairs c.items.ensures c.in_ok-asks.ensures.ranges c.items-in-loop-place-3.ensures c.index-items-place-in-loop-place.is c.items-in-loop-place-4.ensures
+    (AreAnswers g.S.Store.answers) c.in_ok-parts.ensures.long c.in_ok-parts.ensures.answers)
+    c.in_err-add_found.field-0.0 c.in_err-add_found.ensures.tells)
 
 pub loop-place-preserved : goal.loop-place-preserved
 loop-place-preserved g c =
-    let told = g.S.Store.content c.args.calls.now.store.now in
-    let same = c.loop-place.invariant.uses.reads.same in
     let scan = c.args.scan.now in
-    let count = length c.args.inputs.now in
-    let place = c.loop-place.place in
-    let old = c.loop-place.found in
-    let new = c.scan_input.new.found in
     let after = option_copied c.args.after in
-    let input = c.index-inputs-place.result in
+    let inputs = c.args.inputs.now in
+    let place = c.loop-place.place in
+    let within = c.loop-place-test.true in
+    let combo : List (List Value) = get_or inputs place [] in
+    let told = g.S.Store.content c.args.calls.now.store.now in
+    let pairs = c.items-in-loop-place-4.result.now in
+    let own = c.items-in-loop-place-2.result.now in
+    let old = c.loop-place.found in
+    let new = c.add_found.new.found in
+    let part = pairs_here scan after inputs place within _ _ _ _ _ pairs c.items.ensures c.in_ok-asks.ensures.ranges c.items-in-loop-place-3.ensures c.index-items-place-in-loop-place.is c.items-in-loop-place-4.ensures (IsPartAsked c.args.limit) c.in_ok-parts.ensures.parts in
+    let are = pairs_here scan after inputs place within _ _ _ _ _ pairs c.items.ensures c.in_ok-asks.ensures.ranges c.items-in-loop-place-3.ensures c.index-items-place-in-loop-place.is c.items-in-loop-place-4.ensures (ArePairsOf told c.args.limit) c.in_ok-parts.ensures.answer in
+    let constants = constants_here scan after inputs place within _ _ _ own c.in_ok-asks.ensures.constants c.items-in-loop-place.ensures c.index-items-place.is c.items-in-loop-place-2.ensures in
     record {
-      uses = uses_then g.S.Store.content g.S.Store.faults _ _ _ _ _ _ _ _ _ c.loop-place.invariant.uses c.scan_input.ensures.uses (omega arith) (more_share place c.args.limit);
-      kept = subst (λ (o : Option Content). AllByRecursion (IsCandidate scan o count) new) same
-          (c.in_ok-scan_input.ensures.kept count c.loop-place-test.true (subst (λ (o : Option Content). AllByRecursion (IsCandidate scan o count) old) (sym same) c.loop-place.invariant.kept));
-      answer = candidates_more scan told c.args.limit after c.args.inputs.now place input old new c.loop-place-test.true c.index-inputs-place.is c.loop-place.invariant.answer
-          (subst (λ (o : Option Content). AddsCandidates scan o c.args.limit after place input old new) same c.in_ok-scan_input.ensures.answer);
+      kept = found_kept scan after combo c.args.limit pairs part told are own constants place old new c.in_ok-add_found.ensures.adds (length inputs) within c.loop-place.invariant.kept;
+      answer = candidates_more scan told c.args.limit after inputs place combo old new within (combo_here scan after inputs place within) c.loop-place.invariant.answer
+          (found_adds scan after combo c.args.limit pairs part told are own constants place old new c.in_ok-add_found.ensures.adds c.requires.ready c.requires.cursor
+          (each_at _ inputs place combo c.requires.inputs within (combo_here scan after inputs place within)));
     }
 
-pub returns-in_err-scan_input-clause-uses : goal.returns-in_err-scan_input-clause-uses
-returns-in_err-scan_input-clause-uses g c =
-    let one : c.loop-place.place + 1 ≤ length c.args.inputs.now = next_within c.loop-place.place (length c.args.inputs.now) c.loop-place-test.true in
-    uses_then g.S.Store.content g.S.Store.faults _ _ _ _ _ _ _ _ _ c.loop-place.invariant.uses c.scan_input.ensures.uses one (within_share c.loop-place.place (length c.args.inputs.now) c.args.limit c.loop-place-test.true)
+pub returns-clause-answer : goal.returns-clause-answer
+returns-clause-answer g c =
+    let all : length c.args.inputs.now ≤ c.loop-place.place = omega (arith, c.loop-place-test.false) in
+    subst (λ (l : List (List (List Value))). AreCandidates c.args.scan.now (g.S.Store.content c.args.calls.now.store.now) c.args.limit (option_copied c.args.after) l c.loop-place.found)
+    (take_all c.loop-place.place c.args.inputs.now all) c.loop-place.invariant.answer

@@ -1,0 +1,69 @@
+//! What a scan asks for its inputs, all at once.
+ghost use Rattle.std.specs.Prelude.{◌≡◌, map, option_copied, IfOk};
+ghost use Rattle.pq_scan.specs.Asked.{range_asked, constants_asked};
+ghost use Rattle.pq_scan.specs.Prepared.{IsPrepared};
+
+use crate::keys::{ends_of, input_of};
+use crate::passing::passes;
+use crate::prepared::Scan;
+use pq_base::{List, NoMem, Row, Value};
+use pq_plan::Combo;
+use pq_store::Ends;
+use std::alloc::Global;
+
+/// The range that is asked for an input, and the constants of its positions; none of either where the input
+/// doesn't pass.
+#[derive(Drop)]
+struct Ask {
+    range: Option<Ends>,
+    constants: List<Option<Value>>,
+}
+
+/// What is asked for an input, strictly after a cursor.
+fn ask_of(alloc: Global, scan: &Scan<'_>, combo: &Combo, after: Option<&Row>) -> Result<Ask, NoMem>
+    requires { IsPrepared scan.now }
+    ensures range { IfOk result (λ ask. ask.range ≡ range_asked scan.now (option_copied after.entry) combo.now) }
+    ensures constants { IfOk result (λ ask. ask.constants ≡ constants_asked scan.now combo.now) }
+{
+    if !passes(scan, combo) {
+        return Ok(Ask {
+            range: None,
+            constants: List::new(alloc),
+        });
+    }
+    let input = input_of(alloc, scan, combo)?;
+    let ends = ends_of(alloc, scan, combo, &input, after)?;
+    Ok(Ask {
+        range: Some(ends),
+        constants: input.constants,
+    })
+}
+
+/// What is asked for several inputs, place by place.
+#[derive(Drop)]
+pub(crate) struct Asks {
+    pub ranges: List<Option<Ends>>,
+    pub constants: List<List<Option<Value>>>,
+}
+
+/// What is asked for inputs, strictly after a cursor.
+pub(crate) fn asks_of(
+    alloc: Global,
+    scan: &Scan<'_>,
+    inputs: &[Combo],
+    after: Option<&Row>,
+) -> Result<Asks, NoMem>
+    requires { IsPrepared scan.now }
+    ensures ranges { IfOk result (λ asks. asks.ranges ≡ map
+        (range_asked scan.now (option_copied after.entry)) inputs.now) }
+    ensures constants { IfOk result (λ asks. asks.constants ≡ map (constants_asked scan.now) inputs.now) }
+{
+    let mut ranges = List::with_room(alloc, inputs.len())?;
+    let mut constants = List::with_room(alloc, inputs.len())?;
+    for combo in inputs {
+        let ask = ask_of(alloc, scan, combo, after)?;
+        ranges.push(alloc, ask.range)?;
+        constants.push(alloc, ask.constants)?;
+    }
+    Ok(Asks { ranges, constants })
+}
