@@ -1,26 +1,28 @@
 -- Inputs that are followed by the rows of their ranges, one after the other.
-use Rattle.std.proofs.Common.{◌≡◌, ℕ, ◌+◌, ◌-◌, ◌*◌, ◌<◌, ◌≤◌, List, [], ◌∷◌, ◌++◌, length, get_or, map, take, Option, None, IsPermutation, refl, sym, ap, ◌∙◌, subst, arith, mul-le-mul_right}
+use Rattle.std.proofs.Common.{◌≡◌, ℕ, ◌+◌, ◌-◌, ◌*◌, ◌<◌, ◌≤◌, false, List, [], ◌∷◌, ◌++◌, length, get_or, map, take, Option, None, IsPermutation, sym, ap, ◌∙◌, subst, arith}
 use Rattle.std.specs.Prelude.{Result, Ok, Err, IfOk, IfErr}
 use Rattle.std.specs.List.{AllByRecursion}
 use Rattle.std.proofs.lemmas.Grind.{flat_map-append}
-use Rattle.std.proofs.lemmas.List.{append-nil, length-append, length-map, take_all, take_more}
-use Rattle.std.proofs.lemmas.List.Sorted.{IsPermutation-refl, IsPermutation-append, IsPermutation-map}
+use Rattle.std.proofs.lemmas.List.{append-nil, length-append, length-map, take_more}
+use Rattle.std.proofs.lemmas.List.Sorted.{IsPermutation-append, IsPermutation-map}
 use Rattle.pq_base.specs.Values.{AllFit}
 use Rattle.pq_base.specs.declared.value.Value.{Value}
 use Rattle.pq_base.proofs.Members.{each_append}
 use Rattle.pq_schema.specs.declared.table.Access.{Access}
+use Rattle.pq_schema.specs.declared.table.Access.TheVariants.{Secondary}
 use Rattle.pq_schema.specs.declared.table.Table.{Table}
 use Rattle.pq_schema.specs.declared.query.Query.{Query}
 use Rattle.pq_base.specs.declared.number.Bound.{Bound}
 use Rattle.pq_schema.specs.Costs.{times, limit_cost}
 use Rattle.pq_schema.specs.Relations.{table_of}
-use Rattle.pq_schema.specs.Rows.{types_of}
+use Rattle.pq_schema.specs.Rows.{Rows, types_of}
 use Rattle.pq_store.specs.Content.{Content}
 use Rattle.pq_store.specs.Counts.{AllowedCounts}
 use Rattle.pq_store.specs.declared.damage.Broke.{Broke}
 use Rattle.pq_calls.specs.Calls.{Uses}
 use Rattle.pq_calls.specs.World.{World, Affords}
 use Rattle.pq_calls.specs.declared.calls.Calls.{Calls}
+use Rattle.pq_content.specs.Pairs.{Pair, HoldsRows}
 use Rattle.pq_plan.specs.Answer.{Question, question}
 use Rattle.pq_plan.specs.Cost.{is_primary_access}
 use Rattle.pq_plan.specs.Running.{matching, ranged, limit_columns}
@@ -29,7 +31,7 @@ use Rattle.pq_nodes.specs.Operators.{AreInputs, AffordsNode, AreFound, AnswersNo
 use Rattle.pq_nodes.specs.Paid.{node_cost}
 use Rattle.pq_nodes.proofs.Undamaged.{read_undamaged}
 use Rattle.pq_index_scan.specs.declared.limit.LimitRange.{LimitRange}
-use Rattle.pq_index_scan.specs.Ranged.{own_limit, limit_node, IsRangeOf, AreMatching, AddsRanged}
+use Rattle.pq_index_scan.specs.Ranged.{own_limit, limit_node, IsRangeOf, AddsRanged}
 use Rattle.pq_index_scan.proofs.Ranging.{fits_next}
 
 -- ---- one input
@@ -48,76 +50,67 @@ follow_fit tables query rel low input fits old rows fit all =
     each [] fit = tt
     each (row ∷ rows) fit = (fits_next tables query rel low input row fits fit.0, each rows fit.1)
 
+-- over a content that holds rows, the rows that have the tied values at the limit's columns, in some order
+abbrev pub AreMatching : Option Content → List Table → Query → List Value → ℕ → ℕ → List (List Value) → List (List Value) → Type 0
+AreMatching told tables query params rel limit input found =
+    (rows : Rows) (others : List Pair) → HoldsRows told tables rows others →
+    let q = question tables query rows params in IsPermutation (matching q rel (limit_columns q rel limit) input) found
+
+-- ---- one input after another
+
+pub ranged_more : (q : Question) (rel : ℕ) (cols : List ℕ) (inputs : List (List (List Value))) (input : List (List Value)) → ranged q rel cols (inputs ++ input ∷ []) ≡ ranged q rel cols inputs ++ map (λ row. input ++ row ∷ []) (matching q rel cols input)
+ranged_more q rel cols inputs input =
+    flat_map-append (λ combo. map (λ row. combo ++ row ∷ []) (matching q rel cols combo)) inputs (input ∷ [])
+    ∙ ap (λ (l : List (List (List Value))). ranged q rel cols inputs ++ l) (append-nil (map (λ row. input ++ row ∷ []) (matching q rel cols input)))
+
+-- what the first inputs give, and what one more gives, in some order
+pub ranged_then : (q : Question) (rel : ℕ) (cols : List ℕ) (inputs : List (List (List Value))) (input : List (List Value)) (made : List (List (List Value))) (found : List (List Value)) → IsPermutation (ranged q rel cols inputs) made → IsPermutation (matching q rel cols input) found
+    → IsPermutation (ranged q rel cols (inputs ++ input ∷ [])) (made ++ map (λ row. input ++ row ∷ []) found)
+ranged_then q rel cols inputs input made found h k =
+    let f = λ (row : List Value). input ++ row ∷ [] in
+    subst (λ (l : List (List (List Value))). IsPermutation l (made ++ map f found)) (sym (ranged_more q rel cols inputs input))
+    (IsPermutation-append (ranged q rel cols inputs) made (map f (matching q rel cols input)) (map f found) h (IsPermutation-map f (matching q rel cols input) found k))
+
 module _ (told : Option Content) (tables : List Table) (query : Query) (params : List Value) (rel limit : ℕ) where
-  pub follow_ranged : (input : List (List Value)) (old : List (List (List Value))) (found : List (List Value)) → AreMatching told tables query params rel limit input found → AddsRanged told tables query params rel limit (input ∷ []) old (old ++ map (λ row. input ++ row ∷ []) found)
-  follow_ranged input old found h = λ rows others holds.
+  pub next_ranged : (inputs : List (List (List Value))) (input : List (List Value)) (found after : List (List (List Value))) (rows : List (List Value)) → AreMatching told tables query params rel limit input rows → after ≡ found ++ map (λ row. input ++ row ∷ []) rows → AddsRanged told tables query params rel limit inputs [] found → AddsRanged told tables query params rel limit (inputs ++ input ∷ []) [] after
+  next_ranged inputs input found after matched more is h = λ rows others holds.
       let q = question tables query rows params in
-      let f = λ (row : List Value). input ++ row ∷ [] in (
-        map f found,
-        refl,
-        subst (λ (l : List (List (List Value))). IsPermutation l (map f found)) (sym (append-nil (map f (matching q rel (limit_columns q rel limit) input))))
-            (IsPermutation-map f (matching q rel (limit_columns q rel limit) input) found (h rows others holds)),
+      let so_far = h rows others holds in (
+        so_far.0 ++ map (λ row. input ++ row ∷ []) matched,
+        is ∙ ap (λ (l : List (List (List Value))). l ++ map (λ row. input ++ row ∷ []) matched) so_far.1,
+        ranged_then q rel (limit_columns q rel limit) inputs input so_far.0 matched so_far.2 (more rows others holds),
       )
 
-  -- ---- one input after another
-
-  ranged_more : (q : Question) (cols : List ℕ) (inputs : List (List (List Value))) (i : ℕ) (input : List (List Value)) → i < length inputs → input ≡ get_or inputs i input → ranged q rel cols (take (i + 1) inputs) ≡ ranged q rel cols (take i inputs) ++ ranged q rel cols (input ∷ [])
-  ranged_more q cols inputs i input low at =
-      ap (ranged q rel cols) (take_more inputs i input low ∙ ap (λ (c : List (List Value)). take i inputs ++ c ∷ []) (sym at))
-      ∙ flat_map-append (λ combo. map (λ row. combo ++ row ∷ []) (matching q rel cols combo)) (take i inputs) (input ∷ [])
-
-  pub next_ranged : (later : Option Content) (inputs : List (List (List Value))) (i : ℕ) (input : List (List Value)) (found more : List (List (List Value))) → later ≡ told → i < length inputs → input ≡ get_or inputs i input → AddsRanged told tables query params rel limit (take i inputs) [] found → AddsRanged later tables query params rel limit (input ∷ []) found more → AddsRanged told tables query params rel limit (take (i + 1) inputs) [] more
-  next_ranged later inputs i input found more same low at h k = λ rows others holds.
-      let q = question tables query rows params in
-      let cols = limit_columns q rel limit in
-      let a = h rows others holds in
-      let b = k rows others (record { keeps = holds.keeps; beside = holds.beside; is = same ∙ holds.is }) in (
-        a.0 ++ b.0,
-        b.1 ∙ ap (λ (l : List (List (List Value))). l ++ b.0) a.1,
-        subst (λ (l : List (List (List Value))). IsPermutation l (a.0 ++ b.0)) (sym (ranged_more q cols inputs i input low at))
-            (IsPermutation-append (ranged q rel cols (take i inputs)) a.0 (ranged q rel cols (input ∷ [])) b.0 a.2 b.2),
-      )
-
-  pub none_ranged : AddsRanged told tables query params rel limit [] [] []
-  none_ranged = λ rows others holds. ([], refl, IsPermutation-refl [])
-
-  pub all_ranged : (inputs : List (List (List Value))) (i : ℕ) (found : List (List (List Value))) → length inputs ≤ i → AddsRanged told tables query params rel limit (take i inputs) [] found → AddsRanged told tables query params rel limit inputs [] found
-  all_ranged inputs i found all h = subst (λ (l : List (List (List Value))). AddsRanged told tables query params rel limit l [] found) (take_all i inputs all) h
-
--- ---- shares
-
--- the share of one more input
-pub one_more_share : (i n c : ℕ) → i < n → i * c + c ≤ n * c
-one_more_share i n c low = let h : (i + 1) * c ≤ n * c = mul-le-mul_right c (omega arith) in omega (arith, h)
-
-pub next_share : (i c : ℕ) → i * c + c ≤ (i + 1) * c
-next_share i c = omega arith
-
-pub some_share : (i n c : ℕ) → i ≤ n → i * c ≤ n * c
-some_share i n c low = mul-le-mul_right c low
-
--- nothing is used for no inputs
-pub uses_none : {S L : Type 0} (content : S → Option Content) (faults : S → ℕ) (a : Calls S L) (o e : ℕ) → Uses content faults a a (0 * o) (0 * e)
-uses_none content faults a o e = record {
-  same_store = refl;
-  same_allowance = refl;
-  same_meter = refl;
-  reads = record {
-    same = refl;
-    later = omega arith;
-    granted = refl;
-    spent_ops = refl;
-    spent_entries = refl;
-    rise_ops = omega arith;
-    rise_entries = omega arith;
-    few_ops = omega arith;
-    few_entries = omega arith;
-  };
-}
+-- the first inputs and the next one
+pub first_more : {X : Type 0} (inputs : List X) (i : ℕ) (input : X) → i < length inputs → input ≡ get_or inputs i input → take (i + 1) inputs ≡ take i inputs ++ input ∷ []
+first_more inputs i input low at = take_more inputs i input low ∙ ap (λ x. take i inputs ++ x ∷ []) (sym at)
 
 module _ (tables : List Table) (query : Query) (range : LimitRange) (is : IsRangeOf tables query range) where
   pub range_affords : (allowed : AllowedCounts) (inputs : ℕ) → AffordsNode allowed inputs (limit_node tables query range.rel range.limit range.access) → Affords allowed (inputs * (limit_cost (is_primary_access range.access) range.n).ops) (inputs * (limit_cost (is_primary_access range.access) range.n).entries)
   range_affords allowed inputs left = subst (λ (n : ℕ). Affords allowed (inputs * (limit_cost (is_primary_access range.access) n).ops) (inputs * (limit_cost (is_primary_access range.access) n).entries)) (sym is.n) left
+
+  -- what the range costs in a sequence of an index
+  module _ (index : ℕ) (secondary : range.access ≡ Secondary index) where
+    index_cost : limit_cost (is_primary_access range.access) range.n ≡ limit_cost false range.n
+    index_cost = ap (λ (a : Access). limit_cost (is_primary_access a) range.n) secondary
+
+    ops_are : (inputs : ℕ) → inputs * (1 + range.n) ≡ inputs + inputs * range.n
+    ops_are inputs = omega arith
+
+    entries_are : (inputs : ℕ) → inputs * (2 * range.n) ≡ inputs * range.n + inputs * range.n
+    entries_are inputs = omega arith
+
+    pub secondary_share : (allowed : AllowedCounts) (inputs : ℕ) → AffordsNode allowed inputs (limit_node tables query range.rel range.limit range.access) → Affords allowed (inputs + inputs * range.n) (inputs * range.n + inputs * range.n)
+    secondary_share allowed inputs h =
+        let left : Affords allowed (inputs * (1 + range.n)) (inputs * (2 * range.n)) = subst (λ (b : Bound). Affords allowed (inputs * b.ops) (inputs * b.entries)) index_cost (range_affords allowed inputs h) in
+        subst (λ (ops : ℕ). Affords allowed ops (inputs * range.n + inputs * range.n)) (ops_are inputs)
+        (subst (λ (entries : ℕ). Affords allowed (inputs * (1 + range.n)) entries) (entries_are inputs) left)
+
+    pub secondary_uses : {S L : Type 0} (content : S → Option Content) (faults : S → ℕ) (a b : Calls S L) (inputs : ℕ) → Uses content faults a b (inputs + inputs * range.n) (inputs * range.n + inputs * range.n) → Uses content faults a b (inputs * (limit_cost (is_primary_access range.access) range.n).ops) (inputs * (limit_cost (is_primary_access range.access) range.n).entries)
+    secondary_uses content faults a b inputs h =
+        subst (λ (c : Bound). Uses content faults a b (inputs * c.ops) (inputs * c.entries)) (sym index_cost)
+        (subst (λ (ops : ℕ). Uses content faults a b ops (inputs * (2 * range.n))) (sym (ops_are inputs))
+        (subst (λ (entries : ℕ). Uses content faults a b (inputs + inputs * range.n) entries) (sym (entries_are inputs)) h))
 
   -- ---- the node's clauses, from those of its range
 

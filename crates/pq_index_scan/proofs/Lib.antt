@@ -1,3 +1,5 @@
 pub mod Ranging
 pub mod Following
+pub mod Parts
+pub mod Placed
 pub mod Stopping

@@ -1,10 +1,8 @@
 -- What one range gives behind an input.
-use Rattle.std.proofs.Common.{◌≡◌, ℕ, suc, ◌-◌, ◌≤◌, Bool, true, false, cond, inl, inr, List, [], ◌∷◌, ◌++◌, length, map, take, count_ones, Option, IsPermutation, refl, sym, ap, ◌∙◌, subst, arith}
-use Rattle.std.specs.Prelude.{Result, Ok, Err, IfOk}
+use Rattle.std.proofs.Common.{◌≡◌, ℕ, suc, ◌-◌, ◌≤◌, Bool, true, false, cond, inl, inr, List, [], ◌∷◌, ◌++◌, length, map, take, count_ones, IsPermutation, refl, sym, ap, ◌∙◌, subst, arith}
 use Rattle.std.specs.List.{AllByRecursion}
 use Rattle.std.proofs.lemmas.Bool.{cases_lt}
 use Rattle.std.proofs.lemmas.List.{length-map, length-take, length_push, take_all}
-use Rattle.std.proofs.lemmas.List.Sorted.{IsPermutation-refl}
 use Rattle.pq_base.specs.Columns.{set_of}
 use Rattle.pq_base.specs.Members.{In}
 use Rattle.pq_base.specs.Order.{position_cmp}
@@ -27,14 +25,13 @@ use Rattle.pq_schema.specs.Resolved.{IsResolved, IsRelation}
 use Rattle.pq_schema.specs.Rows.{Rows, IsTableNumber, IsWithinLimit, agrees, group_of, rows_of, types_of}
 use Rattle.pq_schema.specs.Sequences.{ascending_part, columns_of, IsAccess, index_numbered, no_index, sequence_of}
 use Rattle.pq_schema.specs.Tables.{table_at}
-use Rattle.pq_store.specs.Content.{Content, pairs_within}
-use Rattle.pq_store.specs.declared.damage.Broke.{Broke}
+use Rattle.pq_store.specs.Content.{pairs_within}
 use Rattle.pq_calls.specs.Keys.{sequence_key}
 use Rattle.pq_content.specs.Pairs.{Pair, AreBeside, content_pairs, row_pair}
 use Rattle.pq_content.specs.Tables.{AllOfKinds, Keeps, first_columns, types_at, values_of}
 use Rattle.pq_content.proofs.Scans.{rows_under, entries_under, columns_of-primary}
 use Rattle.pq_plan.specs.Answer.{Question, row_of, question}
-use Rattle.pq_plan.specs.Running.{matching}
+use Rattle.pq_plan.specs.Running.{matching, limit_columns}
 use Rattle.pq_plan.proofs.Fixed.{last, earlier_row}
 use Rattle.pq_nodes.specs.Combos.{FitsTables}
 use Rattle.pq_nodes.specs.Inverse.{IsRelationOf}
@@ -44,9 +41,8 @@ use Rattle.pq_nodes.proofs.Ranges.{has_range, same_nulls}
 use Rattle.pq_nodes.proofs.Tied.{matching_group, within_tied}
 use Rattle.pq_operands.specs.Ties.{cells_tied}
 use Rattle.pq_entries.specs.Entries.{AreEnds, pair_of}
-use Rattle.pq_entries.proofs.Naming.{FindsFirst}
 use Rattle.pq_index_scan.specs.declared.limit.LimitRange.{LimitRange}
-use Rattle.pq_index_scan.specs.Ranged.{own_limit, first_of_range, IsRangeOf, AreMatching}
+use Rattle.pq_index_scan.specs.Ranged.{own_limit, first_of_range, IsRangeOf}
 
 -- ---- the relation, its table and its limit
 
@@ -126,10 +122,10 @@ module _ (tables : List Table) (query : Query) (params : List Value) (given : Is
   abbrev prefix : List Value
   prefix = range_prefix q range.rel own.cols range.access input
 
-  under : HasRange q range.rel own.cols range.access input
+  pub under : HasRange q range.rel own.cols range.access input
   under = has_range tables query rows params given.resolved given.params_fit range.rel input fits keeps.schema own.cols is.ready.is.tied range.access is.ready.indexed.1
 
-  abbrev found_rows : List (List Value)
+  abbrev pub found_rows : List (List Value)
   found_rows = rows_by tables rows others keeps beside t range.access prefix
 
   -- no tied value is NULL
@@ -165,7 +161,7 @@ module _ (tables : List Table) (query : Query) (params : List Value) (given : Is
         let few = matching_short in
         omega (arith, sorted, same, few)
 
-  found_there : AllByRecursion (λ row. In row (rows_of t rows)) found_rows
+  pub found_there : AllByRecursion (λ row. In row (rows_of t rows)) found_rows
   found_there =
       let sequence = sequence_of (table_at tables t) range.access in
       let cols = take (length prefix) (columns_of sequence) in
@@ -180,12 +176,10 @@ module _ (tables : List Table) (query : Query) (params : List Value) (given : Is
         subst (λ (l : List (List Value)). IsPermutation l found_rows) (range_found plain)
         (IsPermutation-sort_by (position_cmp (dirs_of sequence)) (values_of sequence) (group_of t cols prefix rows))
 
-    pub first_are_matching : (limit : ℕ) (found : List (List Value)) → limit ≡ own.n → ((within : List (List Value)) → AllByRecursion (λ row. In row (rows_of t rows)) within → pairs_within (content_pairs tables rows others) (sequence_key t (table_at tables t) range.access prefix) (past_code (sequence_key t (table_at tables t) range.access prefix)) ≡ map (pair_of t (table_at tables t) range.access) within → found ≡ take limit within) → IsPermutation (matching q range.rel own.cols input) found
-    first_are_matching limit found size first =
+    pub taken_permuted : (limit : ℕ) → limit ≡ own.n → IsPermutation (matching q range.rel own.cols input) (take limit found_rows)
+    taken_permuted limit size =
         let few = found_short plain in
-        subst (IsPermutation (matching q range.rel own.cols input))
-        (sym (first found_rows found_there (pairs_under tables rows others keeps beside t range.access is.ready.indexed.0 prefix under.kinds under.short) ∙ take_all limit found_rows (omega (arith, few, size))))
-        (found_permuted)
+        subst (IsPermutation (matching q range.rel own.cols input)) (sym (take_all limit found_rows (omega (arith, few, size)))) found_permuted
 
   -- and where one is NULL, nothing matches
   pub none_matching : has_null prefix ≡ true → matching q range.rel own.cols input ≡ []
@@ -199,32 +193,40 @@ pub prefix_is : (tables : List Table) (query : Query) (params : List Value) (ran
 prefix_is tables query params range input is values from =
     from ∙ ap (λ (cols : List ℕ). tied_cells (question tables query [] params) range.rel cols input) is.first
 
--- the range behind an input with a tied NULL has no rows
-pub none_matches : (tables : List Table) (query : Query) (params : List Value) (range : LimitRange) (input : List (List Value)) (told : Option Content) (values : List Value) → IsAsked tables query params → IsRangeOf tables query range → FitsTables tables query (range.rel - 1) input → values ≡ cells_tied query params range.rel input range.first → has_null values ≡ true → AreMatching told tables query params range.rel range.limit input []
-none_matches tables query params range input told values given is fits from null rows others holds =
-    subst (λ (l : List (List Value)). IsPermutation l [])
-    (sym (none_matching tables query params given range is input fits rows others holds.keeps holds.beside (sym (ap has_null (prefix_is tables query params range input is values from)) ∙ null)))
-    (IsPermutation-refl [])
+-- behind an input with a tied NULL nothing matches
+pub none_match : (tables : List Table) (query : Query) (params : List Value) (range : LimitRange) (input : List (List Value)) (rows : Rows) (others : List Pair) → IsAsked tables query params → IsRangeOf tables query range → FitsTables tables query (range.rel - 1) input → Keeps tables rows → AreBeside others → has_null (cells_tied query params range.rel input range.first) ≡ true
+    → let q = question tables query rows params in matching q range.rel (limit_columns q range.rel range.limit) input ≡ []
+none_match tables query params range input rows others given is fits keeps beside null =
+    none_matching tables query params given range is input fits rows others keeps beside
+    (sym (ap has_null (prefix_is tables query params range input is (cells_tied query params range.rel input range.first) refl)) ∙ null)
 
--- the rows of the range behind an input match
-pub range_matches : (tables : List Table) (query : Query) (params : List Value) (range : LimitRange) (input : List (List Value)) (told : Option Content) (low high : List ℕ) → has_null (cells_tied query params range.rel input range.first) ≡ false → IsAsked tables query params → IsRangeOf tables query range → FitsTables tables query (range.rel - 1) input → low ≡ first_of_range tables query params range input → high ≡ past_code low → (result : Result (List (List Value)) Broke) → IfOk result (FindsFirst tables range.number range.access low high range.n told) → IfOk result (AreMatching told tables query params range.rel range.limit input)
-range_matches tables query params range input told low high plain given is fits from upto (Err error) h = tt
-range_matches tables query params range input told low high plain given is fits from upto (Ok found) h = λ rows others holds.
-    first_are_matching tables query params given range is input fits rows others holds.keeps holds.beside
-    (sym (ap has_null (prefix_is tables query params range input is (cells_tied query params range.rel input range.first) refl)) ∙ plain) range.n found is.n (λ within there pairs.
-    h rows others within holds (subst (λ (t : ℕ). AllByRecursion (λ row. In row (rows_of t rows)) within) (sym is.number) there)
-    (subst (λ (l : List ℕ). pairs_within (content_pairs tables rows others) l high ≡ map (pair_of range.number (table_at tables range.number) range.access) within) (sym low_is)
-    (subst (λ (hi : List ℕ). pairs_within (content_pairs tables rows others) start hi ≡ map (pair_of range.number (table_at tables range.number) range.access) within) (sym (upto ∙ ap past_code low_is))
-    (subst (λ (t : ℕ). pairs_within (content_pairs tables rows others) (sequence_key t (table_at tables t) range.access values) (past_code (sequence_key t (table_at tables t) range.access values)) ≡ map (pair_of t (table_at tables t) range.access) within) (sym is.number) pairs))))
+-- the pairs of the range behind an input are those of rows, of which the first ones match
+pub record HasMatching (tables : List Table) (query : Query) (params : List Value) (range : LimitRange) (input : List (List Value)) (rows : Rows) (others : List Pair) : Type 0 where
+  pub within : List (List Value)
+  pub there : AllByRecursion (λ row. In row (rows_of range.number rows)) within
+  pub pairs : let low = first_of_range tables query params range input in pairs_within (content_pairs tables rows others) low (past_code low) ≡ map (pair_of range.number (table_at tables range.number) range.access) within
+  pub matches : let q = question tables query rows params in IsPermutation (matching q range.rel (limit_columns q range.rel range.limit) input) (take range.n within)
+
+pub has_matching : (tables : List Table) (query : Query) (params : List Value) (range : LimitRange) (input : List (List Value)) (rows : Rows) (others : List Pair) → IsAsked tables query params → IsRangeOf tables query range → FitsTables tables query (range.rel - 1) input → Keeps tables rows → AreBeside others → has_null (cells_tied query params range.rel input range.first) ≡ false
+    → HasMatching tables query params range input rows others
+has_matching tables query params range input rows others given is fits keeps beside plain = record {
+  within = found_rows tables query params given range is input fits rows others keeps beside;
+  there = subst (λ (t : ℕ). AllByRecursion (λ row. In row (rows_of t rows)) (found_rows tables query params given range is input fits rows others keeps beside)) (sym is.number) (found_there tables query params given range is input fits rows others keeps beside);
+  pairs =
+      subst (λ (l : List ℕ). pairs_within (content_pairs tables rows others) l (past_code l) ≡ map (pair_of range.number (table_at tables range.number) range.access) (found_rows tables query params given range is input fits rows others keeps beside)) (sym low_is)
+      (subst (λ (t : ℕ). pairs_within (content_pairs tables rows others) (sequence_key t (table_at tables t) range.access values) (past_code (sequence_key t (table_at tables t) range.access values)) ≡ map (pair_of t (table_at tables t) range.access) (found_rows tables query params given range is input fits rows others keeps beside)) (sym is.number)
+      (pairs_under tables rows others keeps beside (relation_at query range.rel).table range.access is.ready.indexed.0 values has.kinds has.short));
+  matches = taken_permuted tables query params given range is input fits rows others keeps beside (sym (ap has_null (prefix_is tables query params range input is (cells_tied query params range.rel input range.first) refl)) ∙ plain) range.n is.n;
+}
   where
     values : List Value
     values = tied_cells (question tables query [] params) range.rel (first_columns (sequence_of (table_of tables query range.rel) range.access) (own_limit tables query range.rel range.limit).cols) input
 
-    start : List ℕ
-    start = sequence_key range.number (table_at tables range.number) range.access values
+    has : HasRange (question tables query rows params) range.rel (own_limit tables query range.rel range.limit).cols range.access input
+    has = under tables query params given range is input fits rows others keeps beside
 
-    low_is : low ≡ start
-    low_is = from ∙ (λ i. sequence_key range.number (range_table tables query range is i) range.access (tied_cells (question tables query [] params) range.rel (is.first i) input))
+    low_is : first_of_range tables query params range input ≡ sequence_key range.number (table_at tables range.number) range.access values
+    low_is = λ i. sequence_key range.number (range_table tables query range is i) range.access (tied_cells (question tables query [] params) range.rel (is.first i) input)
 
 -- ---- combinations
 

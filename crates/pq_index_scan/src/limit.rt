@@ -1,13 +1,11 @@
-//! One range for each input, under the tied values of a limit's columns.
-ghost use Rattle.std.specs.Prelude.{◌≡◌, ◌≤◌, ◌+◌, ◌-◌, ◌*◌, ◌++◌, ◌∷◌, [], map, length, None, IfOk, IfErr, OnOk};
-ghost use Rattle.std.specs.List.{AllByRecursion};
-ghost use Rattle.pq_base.specs.Values.{AllFit};
+//! One range for each input, under the tied values of a limit's columns, all asked at once.
+ghost use Rattle.std.specs.Prelude.{◌≡◌, ◌≤◌, ◌<◌, ◌+◌, ◌*◌, ◌++◌, ◌∷◌, [], All, map, length, None, IfOk, IfErr, OnOk};
+ghost use Rattle.std.specs.List.{AllByRecursion, AllZip};
 ghost use Rattle.pq_schema.specs.Costs.{limit_cost};
-ghost use Rattle.pq_schema.specs.Relations.{table_of};
 ghost use Rattle.pq_schema.specs.Resolved.{IsResolved};
-ghost use Rattle.pq_schema.specs.Rows.{types_of};
 ghost use Rattle.pq_schema.specs.Sound.{AreColumns};
 ghost use Rattle.pq_store.specs.Breaks.{IsAnswered};
+ghost use Rattle.pq_store.specs.Content.{entry, AreAnswers};
 ghost use Rattle.pq_calls.specs.Calls.{Uses, Fails};
 ghost use Rattle.pq_calls.specs.World.{Affords, where_told, world};
 ghost use Rattle.pq_content.specs.Tables.{first_columns};
@@ -16,17 +14,18 @@ ghost use Rattle.pq_nodes.specs.Combos.{FitsTables};
 ghost use Rattle.pq_nodes.specs.Operators.{IsAsked, IsReadyNode, AreInputs, AffordsNode, ReadsNode, AreFound, AnswersNode, ShowsRead, StopsReading, IsSoundOverRows};
 ghost use Rattle.pq_nodes.specs.Paid.{node_cost};
 ghost use Rattle.pq_operands.specs.Ties.{cells_tied};
-ghost use Rattle.pq_index_scan.specs.Ranged.{limit_node, first_of_range, IsRangeOf, AreMatching, AddsRanged};
+ghost use Rattle.pq_entries.specs.Entries.{IsSequence, OfEachRange, IsUnread, OneShows, TellsPair, key_front};
+ghost use Rattle.pq_index_scan.specs.Ranged.{limit_node, first_of_range, ends_behind, IsRangeOf, IsPartBehind, FollowsPart, AddsPart, AreEntriesBehind, followed_at, AddsRanged};
 
 use pq_base::{Bytes, ColSet, List, NoMem, Row, has_null};
 use pq_calls::Calls;
-use pq_entries::{sequence_key, sequence_rows};
+use pq_entries::{named_rows, rows_in, sequence_key, values_in};
 use pq_key_code::past;
 use pq_operands::tied_cells;
 use pq_plan::Combo;
 use pq_predicates::{table_number, table_of};
 use pq_schema::{Access, Catalog, KeyPart, Query, sequence};
-use pq_store::{Allowance, Broke, Meter, Store};
+use pq_store::{Allowance, Broke, Ends, Meter, Pair, Store};
 use std::alloc::Global;
 use std::sync::ledger::Ledger;
 
@@ -108,50 +107,74 @@ fn range_start(
     sequence_key(alloc, range.number, table, range.access, values)
 }
 
-/// The rows that have the tied values at the limit's columns, behind an input; a tied NULL finds none.
-fn matching_rows<S: Store<L>, L: Ledger>(
+/// The ends of the range behind an input; none where a tied value is NULL.
+fn range_ends(
     alloc: Global,
     catalog: &Catalog,
     query: &Query,
     params: &Row,
     range: &LimitRange,
     input: &Combo,
-    calls: &mut Calls<S, L>,
-) -> Result<List<Row>, Broke>
+) -> Result<Option<Ends>, NoMem>
     requires asked { IsAsked catalog.now.tables query.now params.now }
     requires range { IsRangeOf catalog.now.tables query.now range.now }
-    requires input { FitsTables catalog.now.tables query.now (range.now.rel - 1) input.now }
-    requires share { Affords calls.old.allowance.now
-        (limit_cost (is_primary_access range.now.access) range.now.n).ops
-        (limit_cost (is_primary_access range.now.access) range.now.n).entries }
-    ensures uses { Uses S.content S.faults calls.old calls.new
-        (limit_cost (is_primary_access range.now.access) range.now.n).ops
-        (limit_cost (is_primary_access range.now.access) range.now.n).entries }
-    ensures cause { IfErr result (Fails (where_told (ShowsRead catalog.now.tables)) S.content S.faults calls.old
-        calls.new) }
-    ensures answered { IfErr result (IsAnswered S.answers) }
-    ensures few { IfOk result (λ rows. length rows ≤ range.now.n) }
-    ensures fit { IfOk result (AllByRecursion
-        (AllFit (types_of (table_of catalog.now.tables query.now range.now.rel)))) }
-    ensures answer { IfOk result (AreMatching (S.content calls.old.store.now) catalog.now.tables query.now
-        params.now range.now.rel range.now.limit input.now) }
+    ensures { IfOk result (λ ends. ends ≡ ends_behind catalog.now.tables query.now params.now range.now input.now) }
 {
     let values = tied_cells(alloc, query, params, range.rel, input, range.first.items())?;
     if has_null(values.items()) {
-        return Ok(List::new(alloc));
+        return Ok(None);
     }
     let low = range_start(alloc, catalog, query, params, range, input, &values)?;
     let high = past(alloc, Bytes::of_bytes(alloc, low.items())?)?;
-    sequence_rows(
-        alloc,
-        catalog,
-        range.number,
-        range.access,
-        low.items(),
-        high.items(),
-        range.n,
-        calls,
-    )
+    Ok(Some(Ends { low, high }))
+}
+
+/// The same for each input.
+fn all_ends(
+    alloc: Global,
+    catalog: &Catalog,
+    query: &Query,
+    params: &Row,
+    range: &LimitRange,
+    inputs: &[Combo],
+) -> Result<List<Option<Ends>>, NoMem>
+    requires asked { IsAsked catalog.now.tables query.now params.now }
+    requires range { IsRangeOf catalog.now.tables query.now range.now }
+    ensures { IfOk result (λ asks. asks
+        ≡ map (ends_behind catalog.now.tables query.now params.now range.now) inputs.now) }
+{
+    let mut asks = List::new(alloc);
+    for input in inputs {
+        let ends = range_ends(alloc, catalog, query, params, range, input)?;
+        asks.push(alloc, ends)?;
+    }
+    Ok(asks)
+}
+
+/// The pairs of the range behind each input, none where a tied value is NULL: all are asked at once.
+fn all_parts<S: Store<L>, L: Ledger>(
+    alloc: Global,
+    catalog: &Catalog,
+    query: &Query,
+    params: &Row,
+    range: &LimitRange,
+    inputs: &[Combo],
+    calls: &mut Calls<S, L>,
+) -> Result<List<List<Pair>>, Broke>
+    requires asked { IsAsked catalog.now.tables query.now params.now }
+    requires range { IsRangeOf catalog.now.tables query.now range.now }
+    requires share { Affords calls.old.allowance.now (length inputs.now) (length inputs.now * range.now.n) }
+    ensures uses { Uses S.content S.faults calls.old calls.new (length inputs.now) (length inputs.now * range.now.n) }
+    ensures cause { IfErr result (Fails (where_told (ShowsRead catalog.now.tables)) S.content S.faults calls.old
+        calls.new) }
+    ensures answered { IfErr result (IsAnswered S.answers) }
+    ensures long { IfOk result (λ parts. length parts ≡ length inputs.now) }
+    ensures parts { IfOk result (AllZip (IsPartBehind (S.content calls.old.store.now) catalog.now.tables query.now
+        params.now range.now) inputs.now) }
+    ensures answers { IfOk result (AllByRecursion (AreAnswers S.answers)) }
+{
+    let asks = all_ends(alloc, catalog, query, params, range, inputs)?;
+    calls.ranges(alloc, asks.items(), range.n)
 }
 
 /// The input followed by a row.
@@ -178,38 +201,197 @@ fn follow(
     Ok(())
 }
 
-/// Adds the input followed by each row that matches.
-fn range_one<S: Store<L>, L: Ledger>(
+/// Adds the input followed by each row of its part.
+fn follow_part(
+    alloc: Global,
+    catalog: &Catalog,
+    number: u8,
+    input: &Combo,
+    part: &[Pair],
+    found: &mut List<Combo>,
+) -> Result<(), Broke>
+    requires sequence { IsSequence catalog.now.tables number Access.Primary }
+    ensures cause { IfErr result (λ why. OfEachRange number Access.Primary part.now
+        (λ told low high limit. IsUnread (where_told (ShowsRead catalog.now.tables) told) why)) }
+    ensures tells { IfErr result (IsUnread (OneShows TellsPair (map entry part.now))) }
+    ensures follows { OnOk result (FollowsPart catalog.now.tables number input.now part.now found.old found.new) }
+{
+    let rows = rows_in(alloc, catalog, number, part)?;
+    follow(alloc, input, rows, found)?;
+    Ok(())
+}
+
+/// Each input followed by each row of the range behind it, in the primary sequence.
+fn range_primary<S: Store<L>, L: Ledger>(
     alloc: Global,
     catalog: &Catalog,
     query: &Query,
     params: &Row,
     range: &LimitRange,
-    input: &Combo,
-    found: &mut List<Combo>,
+    inputs: &[Combo],
     calls: &mut Calls<S, L>,
-) -> Result<(), Broke>
+) -> Result<List<Combo>, Broke>
     requires asked { IsAsked catalog.now.tables query.now params.now }
     requires range { IsRangeOf catalog.now.tables query.now range.now }
-    requires input { FitsTables catalog.now.tables query.now (range.now.rel - 1) input.now }
-    requires share { Affords calls.old.allowance.now
-        (limit_cost (is_primary_access range.now.access) range.now.n).ops
-        (limit_cost (is_primary_access range.now.access) range.now.n).entries }
-    ensures uses { Uses S.content S.faults calls.old calls.new
-        (limit_cost (is_primary_access range.now.access) range.now.n).ops
-        (limit_cost (is_primary_access range.now.access) range.now.n).entries }
+    requires primary { range.now.access ≡ Access.Primary }
+    requires inputs { AreInputs catalog.now.tables query.now range.now.rel inputs.now }
+    requires share { Affords calls.old.allowance.now (length inputs.now) (length inputs.now * range.now.n) }
+    ensures uses { Uses S.content S.faults calls.old calls.new (length inputs.now) (length inputs.now * range.now.n) }
     ensures cause { IfErr result (Fails (where_told (ShowsRead catalog.now.tables)) S.content S.faults calls.old
         calls.new) }
     ensures answered { IfErr result (IsAnswered S.answers) }
-    ensures few { OnOk result (length found.new ≤ length found.old + range.now.n) }
-    ensures fit { OnOk result (AllByRecursion (FitsTables catalog.now.tables query.now range.now.rel) found.old
-        → AllByRecursion (FitsTables catalog.now.tables query.now range.now.rel) found.new) }
-    ensures answer { OnOk result (AddsRanged (S.content calls.old.store.now) catalog.now.tables query.now
-        params.now range.now.rel range.now.limit (input.now ∷ []) found.old found.new) }
+    ensures few { IfOk result (λ found. length found ≤ length inputs.now * range.now.n) }
+    ensures fit { IfOk result (AllByRecursion (FitsTables catalog.now.tables query.now range.now.rel)) }
+    ensures answer { IfOk result (AddsRanged (S.content calls.old.store.now) catalog.now.tables query.now
+        params.now range.now.rel range.now.limit inputs.now []) }
 {
-    let rows = matching_rows(alloc, catalog, query, params, range, input, calls)?;
-    follow(alloc, input, rows, found)?;
+    let parts = all_parts(alloc, catalog, query, params, range, inputs, calls)?;
+    let mut found = List::new(alloc);
+    for place in 0..inputs.len() {
+        follow_part(
+            alloc,
+            catalog,
+            range.number,
+            &inputs[place],
+            parts.items()[place].items(),
+            &mut found,
+        )?;
+    }
+    Ok(found)
+}
+
+/// Entries of an index, found in the ranges behind inputs: the place of each one's input, and its values.
+#[derive(Drop)]
+struct Entries {
+    places: List<usize>,
+    values: List<Row>,
+}
+
+/// Adds the entries with these values, all behind the input at this place.
+fn add_values(
+    alloc: Global,
+    place: usize,
+    values: List<Row>,
+    entries: &mut Entries,
+) -> Result<(), NoMem>
+    ensures places { OnOk result (entries.new.places ≡ entries.old.places ++ map (λ held. place) values) }
+    ensures values { OnOk result (entries.new.values ≡ entries.old.values ++ values) }
+{
+    for held in values.into_vec() {
+        entries.places.push(alloc, place)?;
+        entries.values.push(alloc, held)?;
+    }
     Ok(())
+}
+
+/// Adds the entries of the part behind the input at this place.
+fn add_part(
+    alloc: Global,
+    catalog: &Catalog,
+    range: &LimitRange,
+    place: usize,
+    part: &[Pair],
+    entries: &mut Entries,
+) -> Result<(), Broke>
+    requires sequence { IsSequence catalog.now.tables range.now.number range.now.access }
+    requires front { All (λ pair. length (key_front 0 range.now.access) ≤ length pair.key) part.now }
+    ensures cause { IfErr result (λ why. OfEachRange range.now.number range.now.access part.now
+        (λ told low high limit. IsUnread (where_told (ShowsRead catalog.now.tables) told) why)) }
+    ensures tells { IfErr result (IsUnread (OneShows TellsPair (map entry part.now))) }
+    ensures adds { OnOk result (AddsPart catalog.now.tables range.now place part.now entries.old entries.new) }
+{
+    let values = values_in(alloc, catalog, range.number, range.access, part)?;
+    add_values(alloc, place, values, entries)?;
+    Ok(())
+}
+
+/// The entries of the ranges behind the inputs, in the order of the inputs.
+fn range_entries<S: Store<L>, L: Ledger>(
+    alloc: Global,
+    catalog: &Catalog,
+    query: &Query,
+    params: &Row,
+    range: &LimitRange,
+    inputs: &[Combo],
+    calls: &mut Calls<S, L>,
+) -> Result<Entries, Broke>
+    requires asked { IsAsked catalog.now.tables query.now params.now }
+    requires range { IsRangeOf catalog.now.tables query.now range.now }
+    requires inputs { AreInputs catalog.now.tables query.now range.now.rel inputs.now }
+    requires share { Affords calls.old.allowance.now (length inputs.now) (length inputs.now * range.now.n) }
+    ensures uses { Uses S.content S.faults calls.old calls.new (length inputs.now) (length inputs.now * range.now.n) }
+    ensures cause { IfErr result (Fails (where_told (ShowsRead catalog.now.tables)) S.content S.faults calls.old
+        calls.new) }
+    ensures answered { IfErr result (IsAnswered S.answers) }
+    ensures entries { IfOk result (AreEntriesBehind (S.content calls.old.store.now) catalog.now.tables query.now
+        params.now range.now inputs.now inputs.now) }
+{
+    let parts = all_parts(alloc, catalog, query, params, range, inputs, calls)?;
+    let mut entries = Entries {
+        places: List::new(alloc),
+        values: List::new(alloc),
+    };
+    for place in 0..inputs.len() {
+        let part = parts.items()[place].items();
+        add_part(alloc, catalog, range, place, part, &mut entries)?;
+    }
+    Ok(entries)
+}
+
+/// The rows, each behind the input at its place.
+fn follow_at(
+    alloc: Global,
+    inputs: &[Combo],
+    places: &[usize],
+    rows: List<Row>,
+) -> Result<List<Combo>, NoMem>
+    requires alike { length rows ≡ length places.now }
+    requires within { AllByRecursion (λ place. place < length inputs.now) places.now }
+    ensures { IfOk result (λ found. found ≡ followed_at inputs.now places.now rows) }
+{
+    let mut found = List::new(alloc);
+    let mut at = 0;
+    for row in rows.into_vec() {
+        let input = &inputs[places[at]];
+        found.push(alloc, followed(alloc, input, row)?)?;
+        at += 1;
+    }
+    Ok(found)
+}
+
+/// Each input followed by each row that an entry of the range behind it names, in the sequence of an index: the rows
+/// of all entries are asked at once.
+fn range_secondary<S: Store<L>, L: Ledger>(
+    alloc: Global,
+    catalog: &Catalog,
+    query: &Query,
+    params: &Row,
+    range: &LimitRange,
+    index: u8,
+    inputs: &[Combo],
+    calls: &mut Calls<S, L>,
+) -> Result<List<Combo>, Broke>
+    requires asked { IsAsked catalog.now.tables query.now params.now }
+    requires range { IsRangeOf catalog.now.tables query.now range.now }
+    requires secondary { range.now.access ≡ Access.Secondary index }
+    requires inputs { AreInputs catalog.now.tables query.now range.now.rel inputs.now }
+    requires share { Affords calls.old.allowance.now (length inputs.now + length inputs.now * range.now.n)
+        (length inputs.now * range.now.n + length inputs.now * range.now.n) }
+    ensures uses { Uses S.content S.faults calls.old calls.new (length inputs.now + length inputs.now * range.now.n)
+        (length inputs.now * range.now.n + length inputs.now * range.now.n) }
+    ensures cause { IfErr result (Fails (where_told (ShowsRead catalog.now.tables)) S.content S.faults calls.old
+        calls.new) }
+    ensures answered { IfErr result (IsAnswered S.answers) }
+    ensures few { IfOk result (λ found. length found ≤ length inputs.now * range.now.n) }
+    ensures fit { IfOk result (AllByRecursion (FitsTables catalog.now.tables query.now range.now.rel)) }
+    ensures answer { IfOk result (AddsRanged (S.content calls.old.store.now) catalog.now.tables query.now
+        params.now range.now.rel range.now.limit inputs.now []) }
+{
+    let entries = range_entries(alloc, catalog, query, params, range, inputs, calls)?;
+    let values = entries.values.items();
+    let rows = named_rows(alloc, catalog, range.number, index, values, calls)?;
+    let found = follow_at(alloc, inputs, entries.places.items(), rows)?;
+    Ok(found)
 }
 
 /// Each input followed by each row that matches.
@@ -238,13 +420,13 @@ fn range_each<S: Store<L>, L: Ledger>(
     ensures answer { IfOk result (AddsRanged (S.content calls.old.store.now) catalog.now.tables query.now
         params.now range.now.rel range.now.limit inputs.now []) }
 {
-    let mut found = List::new(alloc);
-    for input in inputs.items() {
-        range_one(
-            alloc, catalog, query, params, range, input, &mut found, calls,
-        )?;
+    let inputs = inputs.items();
+    match range.access {
+        Access::Primary => range_primary(alloc, catalog, query, params, range, inputs, calls),
+        Access::Secondary(index) => range_secondary(
+            alloc, catalog, query, params, range, index, inputs, calls,
+        ),
     }
-    Ok(found)
 }
 
 /// The same for the node of a limit, by its number from 1.
@@ -281,9 +463,10 @@ fn run_range<S: Store<L>, L: Ledger>(
 }
 
 /// Each input followed by each row of the relation that has the tied values at the columns of the limit: one
-/// range of at most n keys for each input, and over an index one get for each row. `limit` is the number of
-/// the limit taken, from 1, and `access` the sequence that begins with its columns. The order of what is
-/// found is the order of the inputs, and behind one input that of the sequence.
+/// range of at most n keys for each input, all asked at once, and over an index one get for each row, which are
+/// asked at once too. `limit` is the number of the limit taken, from 1, and `access` the sequence that begins
+/// with its columns. The order of what is found is the order of the inputs, and behind one input that of the
+/// sequence.
 pub fn limit_range<S: Store<L>, L: Ledger>(
     alloc: Global,
     catalog: &Catalog,
