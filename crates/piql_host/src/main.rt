@@ -7,6 +7,7 @@ ghost use Rattle.pq_fill.specs.Words.{IsForm};
 ghost use Rattle.pq_fill.specs.declared.words.Form.{Form};
 
 use pq_base::PText;
+use pq_fill::{Form as Asked, form_of};
 use pq_host::{HostReader, HostStore, HostWriter, Line, Link};
 use pq_shell::{Status, StdSink, StdSource, WordsErr, read_words, run_piql};
 use pq_store::{Meter, Opening};
@@ -19,8 +20,19 @@ fn link<'a>(rt: &HostRuntime, line: &'a Line) -> Link<'a, Stdin, Stdout> {
     Link::new(line, rt.stdin(), rt.stdout())
 }
 
+// Whether the host answers several questions at once. One that can't say is asked for one after the other, and where
+// the script is only checked it is asked for nothing.
+fn knows_rounds(rt: &HostRuntime, line: &Line, asked: Asked) -> bool {
+    match asked {
+        Asked::Check => false,
+        Asked::Run | Asked::Fill(_) => {
+            matches!(link(rt, line).knows_rounds(rt.alloc()), Ok(true))
+        }
+    }
+}
+
 // The caller's proof picks the ledger of the blank.
-fn run_over<L: Ledger>(rt: &HostRuntime, blank: Blank, words: &[PText]) -> Status
+fn run_over<L: Ledger>(rt: &HostRuntime, blank: Blank, words: &[PText], asked: Asked) -> Status
     requires name { blank.name ≡ L.name }
     requires parts { blank.parts ≡ L.parts }
     requires two { blank.parts ≡ 2 }
@@ -28,7 +40,8 @@ fn run_over<L: Ledger>(rt: &HostRuntime, blank: Blank, words: &[PText]) -> Statu
 {
     let line = Line::new();
     let mut meter = Meter::<L>::start(Opening::of(blank));
-    let mut store = HostStore::new(link(rt, &line), 0);
+    let rounds = knows_rounds(rt, &line, asked);
+    let mut store = HostStore::new(link(rt, &line), 0, rounds);
     let mut source = StdSource::new(HostReader::new(link(rt, &line)));
     let mut sink = StdSink::new(HostWriter::new(link(rt, &line)));
     run_piql(
@@ -41,9 +54,19 @@ fn run_over<L: Ledger>(rt: &HostRuntime, blank: Blank, words: &[PText]) -> Statu
     )
 }
 
+// Words of no form ask the host for nothing.
+fn run_words(rt: &HostRuntime, words: &[PText]) -> Status
+    ensures usage { result ≡ Status.Usage ↔ ((form : Form) → ¬ IsForm form words.now) }
+{
+    match form_of(words) {
+        Some(asked) => run_over::<Brand>(rt, Blank::new(2), words, asked),
+        None => Status::Usage,
+    }
+}
+
 fn run(rt: &HostRuntime) -> Status {
     match read_words(rt) {
-        Ok(words) => run_over::<Brand>(rt, Blank::new(2), words.items()),
+        Ok(words) => run_words(rt, words.items()),
         Err(WordsErr::NotUtf8) => Status::Usage,
         Err(WordsErr::NoMem) => Status::NoMem,
     }

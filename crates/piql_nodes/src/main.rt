@@ -31,7 +31,7 @@ fn parts_of<'a>(
 {
     let mut parts = List::new(rt.alloc());
     for (node, from) in keys.into_vec().into_iter().enumerate() {
-        let store = HostStore::new(link(rt, line), node as u8);
+        let store = HostStore::new(link(rt, line), node as u8, false);
         parts.push(rt.alloc(), Part { from, store })?;
     }
     Ok(parts)

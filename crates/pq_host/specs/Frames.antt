@@ -1,8 +1,14 @@
 -- The frames between an engine and its host, as docs/HOST.md tells them.
-use Rattle.std.specs.Prelude.{ℕ, ◌+◌, Bool, true, false, List, [], ◌∷◌, ◌++◌, length, flat_map, Option, Some, None}
+use Rattle.std.specs.Prelude.{◌≡◌, ℕ, ◌+◌, ◌==◌, is_some, is_none, Bool, true, false, List, [], ◌∷◌, ◌++◌, length, map, flat_map, Option, Some, None}
 use Rattle.std.specs.Int.{w32, to_be_bytes}
 use Rattle.pq_store.specs.declared.store.Guard.{Guard}
 use Rattle.pq_store.specs.declared.store.Guard.TheVariants.{Any, Absent, Is}
+use Rattle.pq_store.specs.Content.{entry}
+use Rattle.pq_store.specs.Rounds.{one_if_some}
+use Rattle.pq_store.specs.declared.store.Ends.{Ends}
+use Rattle.pq_store.specs.declared.store.Pair.{Pair}
+use Rattle.pq_store.specs.declared.store.Test.{Test}
+use Rattle.pq_store.specs.declared.store.Test.TheVariants.{Has, Lacks, Full}
 use Rattle.pq_host.specs.declared.request.Op.{Op}
 use Rattle.pq_host.specs.declared.request.Op.TheVariants as ops
 
@@ -22,6 +28,9 @@ op_code ops.Get = 16
 op_code ops.Range = 17
 op_code ops.Count = 18
 op_code ops.Write = 19
+op_code ops.Gets = 20
+op_code ops.Ranges = 21
+op_code ops.FirstHeld = 22
 
 -- a request: its length, the version, what is asked of which node, and the body
 unfoldable pub request : Op → ℕ → List ℕ → List ℕ
@@ -49,6 +58,11 @@ range_request node low high limit = request ops.Range node (range_body low high 
 abbrev pub count_request : ℕ → List ℕ → List ℕ → ℕ → List ℕ
 count_request node low high cap = request ops.Count node (range_body low high cap)
 
+-- what asks whether the host answers several questions at once: how many pairs are in an empty range. A host that does
+-- answers 2, and another one 0
+abbrev pub rounds_request : List ℕ
+rounds_request = count_request 0 (255 ∷ []) (255 ∷ []) 2
+
 abbrev pub guard_mark : Guard → ℕ
 guard_mark Any = 0
 guard_mark Absent = 1
@@ -73,6 +87,61 @@ write_body key guard new =
 
 abbrev pub write_request : ℕ → List ℕ → Guard → Option (List ℕ) → List ℕ
 write_request node key guard new = request ops.Write node (write_body key guard new)
+
+-- ---- several questions at once
+
+-- a key that is asked for, or a 0 where none is
+abbrev pub asked_key : Option (List ℕ) → List ℕ
+asked_key None = 0 ∷ []
+asked_key (Some key) = 1 ∷ sized key
+
+abbrev pub gets_body : List (Option (List ℕ)) → List ℕ
+gets_body keys = number (length keys) ++ flat_map asked_key keys
+
+abbrev pub gets_request : ℕ → List (Option (List ℕ)) → List ℕ
+gets_request node keys = request ops.Gets node (gets_body keys)
+
+-- the same of a range
+abbrev pub asked_range : Option Ends → List ℕ
+asked_range None = 0 ∷ []
+asked_range (Some ends) = 1 ∷ (sized ends.low ++ sized ends.high)
+
+abbrev pub ranges_body : List (Option Ends) → ℕ → List ℕ
+ranges_body asks limit = number limit ++ (number (length asks) ++ flat_map asked_range asks)
+
+abbrev pub ranges_request : ℕ → List (Option Ends) → ℕ → List ℕ
+ranges_request node asks limit = request ops.Ranges node (ranges_body asks limit)
+
+abbrev pub test_bytes : Test → List ℕ
+test_bytes (Has key) = 0 ∷ sized key
+test_bytes (Lacks key) = 1 ∷ sized key
+test_bytes (Full ends n) = 2 ∷ (number n ++ (sized ends.low ++ sized ends.high))
+
+abbrev pub tests_body : List Test → List ℕ
+tests_body tests = number (length tests) ++ flat_map test_bytes tests
+
+abbrev pub first_held_request : ℕ → List Test → List ℕ
+first_held_request node tests = request ops.FirstHeld node (tests_body tests)
+
+-- a single key is asked for by a get, a single range by a range, and a single test is a get or a count
+abbrev pub values_request : ℕ → List (Option (List ℕ)) → List ℕ
+values_request node (Some key ∷ []) = get_request node key
+values_request node keys = gets_request node keys
+
+abbrev pub parts_request : ℕ → List (Option Ends) → ℕ → List ℕ
+parts_request node (Some ends ∷ []) limit = range_request node ends.low ends.high limit
+parts_request node asks limit = ranges_request node asks limit
+
+abbrev pub test_request : ℕ → Test → List ℕ
+test_request node (Has key) = get_request node key
+test_request node (Lacks key) = get_request node key
+test_request node (Full ends n) = count_request node ends.low ends.high n
+
+abbrev pub tests_request : ℕ → List Test → List ℕ
+tests_request node (test ∷ []) = test_request node test
+tests_request node tests = first_held_request node tests
+
+-- ---- answers
 
 -- what stands before the body of an answer: its length, the version, and that what was asked is done
 unfoldable pub answer_head : ℕ → List ℕ
@@ -103,3 +172,37 @@ keys_body keys = number (length keys) ++ flat_map sized keys
 abbrev pub done_body : Bool → List ℕ
 done_body false = 0 ∷ []
 done_body true = 1 ∷ []
+
+-- ---- and of several questions at once
+
+abbrev pub value_bytes : Option (List ℕ) → List ℕ
+value_bytes None = 0 ∷ []
+value_bytes (Some value) = 1 ∷ sized value
+
+abbrev pub part_bytes : List Pair → List ℕ
+part_bytes pairs = pairs_body (map entry pairs)
+
+abbrev pub place_body : ℕ → ℕ → List ℕ
+place_body place entries = number place ++ number entries
+
+abbrev pub values_body : List (Option (List ℕ)) → List (Option (List ℕ)) → List ℕ
+values_body (Some key ∷ []) (value ∷ []) = value_body value
+values_body keys found = flat_map value_bytes found
+
+-- the place of the first test that holds, or the number of tests
+abbrev pub told_place : List Test → Option ℕ → ℕ
+told_place tests None = length tests
+told_place tests (Some at) = at
+
+-- what the answer to a test's get or count says: whether it holds, and how many entries it has
+abbrev pub TellsTest : Test → List ℕ → Bool → ℕ → Type 0
+TellsTest (Has key) body held entries =
+    (found : Option (List ℕ)) × (body ≡ value_body found) × (held ≡ is_some found) × (entries ≡ one_if_some found)
+TellsTest (Lacks key) body held entries =
+    (found : Option (List ℕ)) × (body ≡ value_body found) × (held ≡ is_none found) × (entries ≡ one_if_some found)
+TellsTest (Full ends n) body held entries = (body ≡ number entries) × (held ≡ (entries == n))
+
+-- and what the answer to several tests says
+abbrev pub TellsTests : List Test → List ℕ → Option ℕ → ℕ → Type 0
+TellsTests (test ∷ []) body at entries = TellsTest test body (is_some at) entries
+TellsTests tests body at entries = body ≡ place_body (told_place tests at) entries

@@ -9,8 +9,9 @@ ghost use Rattle.pq_host.specs.Frames.{number, answer, get_request, range_reques
 use crate::answer::{read_done, read_pairs, read_value};
 use crate::link::Link;
 use crate::request::{Op, range_body, write_body};
+use crate::rounds::append;
 use pq_base::{Bytes, List};
-use pq_store::{Guard, Meter, Pair, Store, StoreErr, is_part};
+use pq_store::{Allowance, Ends, Guard, Meter, Pair, Store, StoreErr, Test, is_part};
 use std::alloc::Global;
 use std::io::{Read, Write};
 use std::marker::Model;
@@ -22,8 +23,10 @@ use std::sync::ledger::Ledger;
 /// no store gives. The count stands still at its type's end.
 #[derive(Drop)]
 pub struct HostStore<'a, R: Read, W: Write> {
-    link: Link<'a, R, W>,
-    node: u8,
+    pub(crate) link: Link<'a, R, W>,
+    pub(crate) node: u8,
+    /// Whether the host answers several questions at once.
+    pub(crate) rounds: bool,
     faults: u64,
 }
 
@@ -32,28 +35,30 @@ impl<'a, R: Read, W: Write> Model for HostStore<'a, R, W> {
 
     ghost Value = { HostedNode };
 
-    ghost view = { λ s. record { link = s.link; node = s.node; faults = s.faults } };
+    ghost view = { λ s. record { link = s.link; node = s.node; rounds = s.rounds; faults = s.faults } };
 }
 
 impl<'a, R: Read, W: Write> HostStore<'a, R, W> {
-    /// The store of this node at the other end of the link, before its first fault.
-    pub fn new(link: Link<'a, R, W>, node: u8) -> HostStore<'a, R, W>
-        ensures { result ≡ record { link = link.entry; node = node; faults = 0 } }
+    /// The store of this node at the other end of the link, before its first fault, and whether the host knows rounds.
+    pub fn new(link: Link<'a, R, W>, node: u8, rounds: bool) -> HostStore<'a, R, W>
+        ensures { result ≡ record { link = link.entry; node = node; rounds = rounds; faults = 0 } }
     {
         HostStore {
             link,
             node,
+            rounds,
             faults: 0,
         }
     }
 
     // Each error but want of memory is a fault.
-    fn refused(&mut self, error: StoreErr) -> StoreErr
+    pub(crate) fn refused(&mut self, error: StoreErr) -> StoreErr
         ensures error { result ≡ error }
         ensures later { self.old.faults ≤ self.new.faults }
         ensures risen { error ≡ StoreErr.Failed → HasRisen self.old.faults self.new.faults }
         ensures link { self.new.link ≡ self.old.link }
         ensures node { self.new.node ≡ self.old.node }
+        ensures rounds { self.new.rounds ≡ self.old.rounds }
     {
         if matches!(error, StoreErr::Failed) {
             self.faults = self.faults.saturating_add(1);
@@ -61,7 +66,7 @@ impl<'a, R: Read, W: Write> HostStore<'a, R, W> {
         error
     }
 
-    fn value_at(&mut self, alloc: Global, key: &[u8]) -> Result<Option<Bytes>, StoreErr>
+    pub(crate) fn value_at(&mut self, alloc: Global, key: &[u8]) -> Result<Option<Bytes>, StoreErr>
         ensures exchanged { IfOk result (λ found. HasExchanged self.old.link self.new.link
             (get_request self.old.node key.now) (answer (value_body found))) }
         ensures failed { OnErr result (HasFailed self.old.link self.new.link
@@ -69,6 +74,7 @@ impl<'a, R: Read, W: Write> HostStore<'a, R, W> {
         ensures broken { StaysBroken self.old.link self.new.link result }
         ensures faults { self.new.faults ≡ self.old.faults }
         ensures node { self.new.node ≡ self.old.node }
+        ensures rounds { self.new.rounds ≡ self.old.rounds }
     {
         let body = self.link.ask_body(alloc, Op::Get, self.node, key)?;
         let found = read_value(alloc, body.items())?;
@@ -91,6 +97,7 @@ impl<'a, R: Read, W: Write> HostStore<'a, R, W> {
         ensures broken { StaysBroken self.old.link self.new.link result }
         ensures faults { self.new.faults ≡ self.old.faults }
         ensures node { self.new.node ≡ self.old.node }
+        ensures rounds { self.new.rounds ≡ self.old.rounds }
     {
         let body = range_body(alloc, low, high, limit)?;
         let body = self
@@ -104,7 +111,7 @@ impl<'a, R: Read, W: Write> HostStore<'a, R, W> {
         Ok(pairs)
     }
 
-    fn number_within(
+    pub(crate) fn number_within(
         &mut self,
         alloc: Global,
         low: &[u8],
@@ -119,6 +126,7 @@ impl<'a, R: Read, W: Write> HostStore<'a, R, W> {
         ensures broken { StaysBroken self.old.link self.new.link result }
         ensures faults { self.new.faults ≡ self.old.faults }
         ensures node { self.new.node ≡ self.old.node }
+        ensures rounds { self.new.rounds ≡ self.old.rounds }
     {
         let body = range_body(alloc, low, high, cap)?;
         let number = self
@@ -149,6 +157,7 @@ impl<'a, R: Read, W: Write> HostStore<'a, R, W> {
         ensures unsent { IsErrOf result StoreErr.NoMem → self.new.link ≡ self.old.link }
         ensures faults { self.new.faults ≡ self.old.faults }
         ensures node { self.new.node ≡ self.old.node }
+        ensures rounds { self.new.rounds ≡ self.old.rounds }
     {
         let body = write_body(alloc, key, guard, new)?;
         let answer = self
@@ -165,13 +174,15 @@ impl<'a, R: Read, W: Write> HostStore<'a, R, W> {
 }
 
 impl<'a, L: Ledger, R: Read, W: Write> Store<L> for HostStore<'a, R, W> {
-    ghost use Rattle.std.specs.Prelude.{◌≡◌, ◌≤◌, ◌⊎◌, ℕ, None, Option, IfSome, IfOk, OnOk, OnErr, IsErrOf, map, take, length, min};
+    ghost use Rattle.std.specs.Prelude.{◌≡◌, ◌≤◌, ◌<◌, ◌*◌, ◌⊎◌, ℕ, None, Option, IfSome, IfOk, OnOk, OnErr, IsErrOf, map, take, length, min, sum_by};
+    ghost use Rattle.std.specs.List.{AllZip};
     ghost use Rattle.std.specs.Option.{option_map, option_copied};
     ghost use Rattle.std.specs.FinMap.{get as value_at};
-    ghost use Rattle.pq_store.specs.Counts.{charged_counts};
+    ghost use Rattle.pq_store.specs.Counts.{charged_counts, raised_counts};
     ghost use Rattle.pq_store.specs.Content.{Content, entry, pairs_within, after_write, admits, got_entries, ranged_entries, counted_entries, IsPartOf, HasCause};
-    ghost use Rattle.pq_host.specs.Ends.{HasExchanged, HasFailed, StaysBroken};
-    ghost use Rattle.pq_host.specs.Frames.{number, answer, get_request, range_request, count_request, write_request, value_body, pairs_body, done_body};
+    ghost use Rattle.pq_store.specs.Rounds.{Affords, Pays, IsValueAnswered, IsPartAsked, one_if_some, test_entries, AreTestsCounted};
+    ghost use Rattle.pq_host.specs.Ends.{HasExchanged, HasFailed, StaysBroken, HasAskedAll, HasFailedAmong, HasAskedValues, HasAskedParts, HasAskedUnheld, HasFoundHeld, any_answer, most_asked, most_ranges};
+    ghost use Rattle.pq_host.specs.Frames.{values_request, parts_request, tests_request, number, answer, get_request, range_request, count_request, write_request, value_body, pairs_body, done_body};
 
     ghost content = { λ _. None };
 
@@ -192,6 +203,7 @@ impl<'a, L: Ledger, R: Read, W: Write> Store<L> for HostStore<'a, R, W> {
             (get_request self.old.node key.now)) }
         ensures broken { StaysBroken self.old.link self.new.link result }
         ensures node { self.new.node ≡ self.old.node }
+        ensures rounds { self.new.rounds ≡ self.old.rounds }
     {
         match self.value_at(alloc, key) {
             Ok(Some(value)) => {
@@ -228,6 +240,7 @@ impl<'a, L: Ledger, R: Read, W: Write> Store<L> for HostStore<'a, R, W> {
             (range_request self.old.node low.now high.now limit)) }
         ensures broken { StaysBroken self.old.link self.new.link result }
         ensures node { self.new.node ≡ self.old.node }
+        ensures rounds { self.new.rounds ≡ self.old.rounds }
     {
         match self.pairs_within(alloc, low, high, limit) {
             Ok(pairs) => {
@@ -259,6 +272,7 @@ impl<'a, L: Ledger, R: Read, W: Write> Store<L> for HostStore<'a, R, W> {
             (count_request self.old.node low.now high.now cap)) }
         ensures broken { StaysBroken self.old.link self.new.link result }
         ensures node { self.new.node ≡ self.old.node }
+        ensures rounds { self.new.rounds ≡ self.old.rounds }
     {
         match self.number_within(alloc, low, high, cap) {
             Ok(n) => {
@@ -291,11 +305,118 @@ impl<'a, L: Ledger, R: Read, W: Write> Store<L> for HostStore<'a, R, W> {
         ensures broken { StaysBroken self.old.link self.new.link result }
         ensures unsent { IsErrOf result StoreErr.NoMem → self.new.link ≡ self.old.link }
         ensures node { self.new.node ≡ self.old.node }
+        ensures rounds { self.new.rounds ≡ self.old.rounds }
     {
         meter.charge(0);
         match self.change(alloc, key, guard, new) {
             Ok(done) => Ok(done),
             Err(error) => Err(self.refused(error)),
         }
+    }
+
+    /// An exchange for each 128 keys, where the host knows rounds, else one for each key.
+    fn gets(
+        &mut self,
+        alloc: Global,
+        keys: &[Option<Bytes>],
+        allowance: &mut Allowance,
+        meter: &mut Meter<L>,
+    ) -> Result<List<Option<Bytes>>, StoreErr>
+        requires share { Affords allowance.old (length keys.now) (length keys.now) }
+        ensures answered { IfOk result (AllZip (IsValueAnswered any_answer) keys.now) }
+        ensures cause { HasCause self.old.faults self.new.faults result }
+        ensures paid { Pays allowance.old allowance.new meter.old meter.new (length keys.now) (length keys.now) }
+        ensures counted { IfOk result (λ found. meter.new ≡ raised_counts meter.old (sum_by one_if_some keys.now)
+            (sum_by one_if_some found)) }
+        ensures exchanged { IfOk result (HasAskedAll (most_asked self.old.rounds) (HasAskedValues self.old.node)
+            self.old.link self.new.link keys.now) }
+        ensures failed { OnErr result (HasFailedAmong (most_asked self.old.rounds) (HasAskedValues self.old.node)
+            (values_request self.old.node) self.old.link self.new.link keys.now) }
+        ensures broken { 1 ≤ sum_by one_if_some keys.now → StaysBroken self.old.link self.new.link result }
+        ensures node { self.new.node ≡ self.old.node }
+        ensures rounds { self.new.rounds ≡ self.old.rounds }
+    {
+        let most = self.at_once();
+        let mut found = List::new(alloc);
+        while found.items().len() < keys.len() {
+            let begin = found.items().len();
+            let end = keys.len().min(begin + most);
+            let values = self.paid_values(alloc, &keys[begin..end], allowance, meter)?;
+            append(alloc, &mut found, values)?;
+        }
+        Ok(found)
+    }
+
+    /// An exchange for each 128 ranges, or for fewer where they may have many pairs, if the host knows rounds; else one
+    /// for each range.
+    fn ranges(
+        &mut self,
+        alloc: Global,
+        asks: &[Option<Ends>],
+        limit: u32,
+        allowance: &mut Allowance,
+        meter: &mut Meter<L>,
+    ) -> Result<List<List<Pair>>, StoreErr>
+        requires limit { 1 ≤ limit }
+        requires share { Affords allowance.old (length asks.now) (length asks.now * limit) }
+        ensures parts { IfOk result (AllZip (IsPartAsked limit) asks.now) }
+        ensures cause { HasCause self.old.faults self.new.faults result }
+        ensures paid { Pays allowance.old allowance.new meter.old meter.new (length asks.now)
+            (length asks.now * limit) }
+        ensures counted { IfOk result (λ found. meter.new ≡ raised_counts meter.old (sum_by one_if_some asks.now)
+            (sum_by length found)) }
+        ensures exchanged { IfOk result (HasAskedAll (most_ranges self.old.rounds limit)
+            (HasAskedParts self.old.node limit) self.old.link self.new.link asks.now) }
+        ensures failed { OnErr result (HasFailedAmong (most_ranges self.old.rounds limit)
+            (HasAskedParts self.old.node limit) (λ part. parts_request self.old.node part limit)
+            self.old.link self.new.link asks.now) }
+        ensures broken { 1 ≤ sum_by one_if_some asks.now → StaysBroken self.old.link self.new.link result }
+        ensures node { self.new.node ≡ self.old.node }
+        ensures rounds { self.new.rounds ≡ self.old.rounds }
+    {
+        let most = self.ranges_at_once(limit);
+        let mut found = List::new(alloc);
+        while found.items().len() < asks.len() {
+            let begin = found.items().len();
+            let end = asks.len().min(begin + most);
+            let parts = self.paid_parts(alloc, &asks[begin..end], limit, allowance, meter)?;
+            append(alloc, &mut found, parts)?;
+        }
+        Ok(found)
+    }
+
+    /// An exchange for each 128 tests up to the one that holds, where the host knows rounds, else one for each test.
+    fn first_held(
+        &mut self,
+        alloc: Global,
+        tests: &[Test],
+        allowance: &mut Allowance,
+        meter: &mut Meter<L>,
+    ) -> Result<Option<usize>, StoreErr>
+        requires share { Affords allowance.old (length tests.now) (sum_by test_entries tests.now) }
+        ensures within { IfOk result (λ at. IfSome at (λ i. i < length tests.now)) }
+        ensures cause { HasCause self.old.faults self.new.faults result }
+        ensures paid { Pays allowance.old allowance.new meter.old meter.new (length tests.now)
+            (sum_by test_entries tests.now) }
+        ensures counted { IfOk result (AreTestsCounted None meter.old meter.new tests.now) }
+        ensures exchanged { IfOk result (HasFoundHeld (most_asked self.old.rounds) self.old.node self.old.link
+            self.new.link tests.now) }
+        ensures failed { OnErr result (HasFailedAmong (most_asked self.old.rounds) (HasAskedUnheld self.old.node)
+            (tests_request self.old.node) self.old.link self.new.link tests.now) }
+        ensures broken { 1 ≤ length tests.now → StaysBroken self.old.link self.new.link result }
+        ensures node { self.new.node ≡ self.old.node }
+        ensures rounds { self.new.rounds ≡ self.old.rounds }
+    {
+        let most = self.at_once();
+        let mut begin = 0;
+        while begin < tests.len() {
+            let end = tests.len().min(begin + most);
+            let held = self.paid_place(alloc, &tests[begin..end], allowance, meter)?;
+            if let Some(place) = held {
+                return Ok(Some(begin + place));
+            }
+            begin = end;
+        }
+        Ok(None)
     }
 }

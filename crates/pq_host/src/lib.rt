@@ -10,7 +10,9 @@ mod answer;
 mod host_store;
 mod line;
 mod link;
+mod payment;
 mod request;
+mod rounds;
 mod streams;
 
 pub use host_store::HostStore;

@@ -1,12 +1,12 @@
 //! One exchange with the host: a request, and the answer to it.
-ghost use Rattle.std.specs.Prelude.{◌≡◌, ℕ, ◌≤◌, ◌+◌, ◌++◌, List, true, false, IfOk, OnOk, OnErr, IsErrOf, length, min};
+ghost use Rattle.std.specs.Prelude.{◌≡◌, ℕ, ◌≤◌, ◌==◌, ◌+◌, ◌++◌, List, true, false, IfOk, OnOk, OnErr, IsErrOf, length, min};
 ghost use Rattle.std.specs.Io.KnownBytes.{Appends, Consumes};
 ghost use Rattle.pq_host.specs.Ends.{HasBegun, HasExchanged, HasFailed, StaysBroken};
-ghost use Rattle.pq_host.specs.Frames.{request, places_request, answer, answer_head, keys_body};
+ghost use Rattle.pq_host.specs.Frames.{number, request, places_request, rounds_request, answer, answer_head, keys_body};
 
 use crate::answer::{Head, read_head, read_keys};
 use crate::line::{Line, Turn};
-use crate::request::{MOST, Op, head};
+use crate::request::{MOST, Op, head, range_body};
 use pq_base::{Bytes, List, NoMem};
 use pq_store::StoreErr;
 use std::alloc::Global;
@@ -18,6 +18,12 @@ const BODY_MOST: usize = 67_108_864;
 
 /// The bytes of a body for which memory is taken at once.
 const STEP: usize = 4_096;
+
+/// The byte of both ends of the empty range whose pairs a host is asked for.
+const NO_KEY: u8 = 0xff;
+
+/// How many pairs a host says are in the empty range, where it answers several questions at once.
+const KNOWN: u32 = 2;
 
 /// The two streams of a line. After the first answer that is none they are of no more use to any end.
 ///
@@ -231,5 +237,22 @@ impl<'a, R: Read, W: Write> Link<'a, R, W> {
         let keys = read_keys(alloc, body.items())?;
         self.answered();
         Ok(keys)
+    }
+
+    /// Whether the host answers several questions at once. It is asked once, before all calls of a store.
+    pub fn knows_rounds(&mut self, alloc: Global) -> Result<bool, StoreErr>
+        ensures exchanged { IfOk result (λ knows. (n : ℕ) × (knows ≡ (n == 2))
+            × HasExchanged self.old self.new rounds_request (answer (number n))) }
+        ensures failed { OnErr result (HasFailed self.old self.new rounds_request) }
+        ensures broken { StaysBroken self.old self.new result }
+    {
+        let body = range_body(alloc, &[NO_KEY], &[NO_KEY], KNOWN)?;
+        let number = self.ask_exact::<4>(Op::Count, 0, body.items())?;
+        let n = u32::from_be_bytes(number);
+        if n > KNOWN {
+            return Err(StoreErr::Failed);
+        }
+        self.answered();
+        Ok(n == KNOWN)
     }
 }

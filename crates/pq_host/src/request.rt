@@ -1,10 +1,10 @@
 //! The bytes of requests.
 ghost use Rattle.std.specs.Prelude.{◌≡◌, ◌≤◌, ◌+◌, ◌<◌, ◌++◌, ◌∷◌, [], IfOk, OnOk, IsErrOf, length};
 ghost use Rattle.std.specs.Option.{option_copied};
-ghost use Rattle.pq_host.specs.Frames.{number, sized, op_code, guard_mark, held_value, put_value, range_body, write_body};
+ghost use Rattle.pq_host.specs.Frames.{number, sized, op_code, guard_mark, held_value, put_value, range_body, write_body, asked_key, asked_range, test_bytes, gets_body, ranges_body, tests_body};
 
 use pq_base::{Bytes, NoMem};
-use pq_store::{Guard, StoreErr};
+use pq_store::{Ends, Guard, StoreErr, Test};
 use std::alloc::Global;
 
 /// The first byte of each request and of each answer, behind its length.
@@ -33,6 +33,12 @@ pub(crate) enum Op {
     Count,
     /// To change what a key has.
     Write,
+    /// For the values of several keys.
+    Gets,
+    /// For the pairs of several ranges.
+    Ranges,
+    /// For the first of several tests that holds.
+    FirstHeld,
 }
 
 impl Op {
@@ -47,6 +53,9 @@ impl Op {
             Op::Range => 17,
             Op::Count => 18,
             Op::Write => 19,
+            Op::Gets => 20,
+            Op::Ranges => 21,
+            Op::FirstHeld => 22,
         }
     }
 }
@@ -143,5 +152,107 @@ pub(crate) fn write_body(
     put_sized(alloc, &mut body, key)?;
     put_sized(alloc, &mut body, held_value(guard))?;
     put(alloc, &mut body, put_value(new))?;
+    Ok(body)
+}
+
+fn put_ends(alloc: Global, body: &mut Bytes, ends: &Ends) -> Result<(), StoreErr>
+    ensures ok { OnOk result (body.new ≡ body.old ++ (sized ends.now.low ++ sized ends.now.high)) }
+    ensures too_long { IsErrOf result StoreErr.Failed → 16777213 < length (sized ends.now.low ++ sized ends.now.high) }
+{
+    put_sized(alloc, body, ends.low.items())?;
+    put_sized(alloc, body, ends.high.items())
+}
+
+fn put_key(alloc: Global, body: &mut Bytes, asked: &Option<Bytes>) -> Result<(), StoreErr>
+    ensures ok { OnOk result (body.new ≡ body.old ++ asked_key asked.now) }
+    ensures too_long { IsErrOf result StoreErr.Failed → 16777213 < length (asked_key asked.now) }
+{
+    match asked {
+        None => put(alloc, body, &[0]),
+        Some(key) => {
+            put(alloc, body, &[1])?;
+            put_sized(alloc, body, key.items())
+        }
+    }
+}
+
+fn put_range(alloc: Global, body: &mut Bytes, asked: &Option<Ends>) -> Result<(), StoreErr>
+    ensures ok { OnOk result (body.new ≡ body.old ++ asked_range asked.now) }
+    ensures too_long { IsErrOf result StoreErr.Failed → 16777213 < length (asked_range asked.now) }
+{
+    match asked {
+        None => put(alloc, body, &[0]),
+        Some(ends) => {
+            put(alloc, body, &[1])?;
+            put_ends(alloc, body, ends)
+        }
+    }
+}
+
+fn put_test(alloc: Global, body: &mut Bytes, test: &Test) -> Result<(), StoreErr>
+    ensures ok { OnOk result (body.new ≡ body.old ++ test_bytes test.now) }
+    ensures too_long { IsErrOf result StoreErr.Failed → 16777213 < length (test_bytes test.now) }
+{
+    match test {
+        Test::Has(key) => {
+            put(alloc, body, &[0])?;
+            put_sized(alloc, body, key.items())
+        }
+        Test::Lacks(key) => {
+            put(alloc, body, &[1])?;
+            put_sized(alloc, body, key.items())
+        }
+        Test::Full(ends, n) => {
+            put(alloc, body, &[2])?;
+            put(alloc, body, &n.to_be_bytes())?;
+            put_ends(alloc, body, ends)
+        }
+    }
+}
+
+/// The body of a request for the values of keys.
+pub(crate) fn gets_body(alloc: Global, keys: &[Option<Bytes>]) -> Result<Bytes, StoreErr>
+    requires { length keys.now ≤ 128 }
+    ensures ok { IfOk result (λ body. body ≡ gets_body keys.now) }
+    ensures too_long { IsErrOf result StoreErr.Failed → 16777213 < length (gets_body keys.now) }
+{
+    let mut body = Bytes::new(alloc);
+    put(alloc, &mut body, &(keys.len() as u32).to_be_bytes())?;
+    for asked in keys {
+        put_key(alloc, &mut body, asked)?;
+    }
+    Ok(body)
+}
+
+/// The body of a request for the first `limit` pairs of each range.
+pub(crate) fn ranges_body(
+    alloc: Global,
+    asks: &[Option<Ends>],
+    limit: u32,
+) -> Result<Bytes, StoreErr>
+    requires { length asks.now ≤ 128 }
+    ensures ok { IfOk result (λ body. body ≡ ranges_body asks.now limit) }
+    ensures too_long { IsErrOf result StoreErr.Failed → 16777213 < length (ranges_body asks.now limit) }
+{
+    let mut body = Bytes::new(alloc);
+    put(alloc, &mut body, &limit.to_be_bytes())?;
+    put(alloc, &mut body, &(asks.len() as u32).to_be_bytes())?;
+    for asked in asks {
+        put_range(alloc, &mut body, asked)?;
+    }
+    Ok(body)
+}
+
+/// The body of a request for the first test that holds.
+pub(crate) fn tests_body(alloc: Global, tests: &[Test]) -> Result<Bytes, StoreErr>
+    requires { length tests.now ≤ 128 }
+    ensures ok { IfOk result (λ body. body ≡ tests_body tests.now) }
+    ensures too_long { IsErrOf result StoreErr.Failed → 16777213 < length (tests_body tests.now) }
+{
+    let mut body = Bytes::new(alloc);
+    put(alloc, &mut body, &(tests.len() as u32).to_be_bytes())?;
+    for test in tests {
+        put_test(alloc, &mut body, test)?;
+    }
     Ok(body)
 }
