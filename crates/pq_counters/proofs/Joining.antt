@@ -1,5 +1,5 @@
 -- The changes of rows and entries and behind them those of counters, as one list.
-use Rattle.std.proofs.Common.{◌≡◌, ◌+◌, ◌||◌, Bool, true, false, List, [], ◌∷◌, ◌++◌, length, map, Option, Some, None, Result, Ok, Err, inr, refl, sym, ap, ◌∙◌, subst, arith, length-append}
+use Rattle.std.proofs.Common.{◌≡◌, ℕ, ◌+◌, ◌||◌, Bool, true, false, List, [], ◌∷◌, ◌++◌, length, map, Option, Some, None, Result, Ok, Err, inr, refl, sym, ap, ◌∙◌, subst, arith, length-append}
 use Rattle.std.specs.Prelude.{MatchResult}
 use Rattle.std.specs.List.{AllByRecursion}
 use Rattle.std.proofs.lemmas.List.{map-append}
@@ -17,8 +17,8 @@ use Rattle.pq_content.specs.Tables.{Rows}
 use Rattle.pq_calls.specs.World.{World, Affords, Reads}
 use Rattle.pq_index_keep.proofs.Inserting.{each_by, each_is}
 use Rattle.pq_index_keep.proofs.Narrow.{valid_writable}
-use Rattle.pq_index_keep.specs.Bounds.{most_changes, write_tests}
-use Rattle.pq_index_keep.specs.Effects.{effect}
+use Rattle.pq_index_keep.specs.Bounds.{most_changes, tests_behind}
+use Rattle.pq_index_keep.specs.Effects.{effect, changes_of}
 use Rattle.pq_index_keep.specs.Promises.{ArePlanned, MakesRows, Plans}
 use Rattle.pq_index_keep.specs.Sound.{IsWrite}
 use Rattle.pq_index_keep.specs.declared.plan.Planned.{Planned}
@@ -29,8 +29,8 @@ use Rattle.pq_tallies.specs.Defined.{counters_in}
 use Rattle.pq_tallies.specs.Writes.{counted_effect, full_refusal, unless_full}
 use Rattle.pq_counters.specs.Bounds.{all_moves, counter_reads, whole_bound, whole_ops}
 use Rattle.pq_counters.specs.Promises.{IsCounterChange, AreCounterChanges, MakesCounts, RefusesAsFull}
-use Rattle.pq_counters.specs.Whole.{whole_reads, whole_changes, AreWhole, MakesWhole, RefusesWhole, PlansWhole}
-use Rattle.pq_counters.proofs.Small.{few_changes, moves_few, some_changes, more_ops}
+use Rattle.pq_counters.specs.Whole.{whole_reads, reads_behind, whole_changes, AreWhole, MakesWhole, RefusesWhole, PlansWhole}
+use Rattle.pq_counters.proofs.Small.{few_row_changes, moves_few, some_changes, more_ops}
 
 -- ---- what an intent may hold
 
@@ -64,7 +64,7 @@ are_whole schema w changes more all v may p c is = subst (AreWhole (whole_change
         let some = p.some in
         let few = p.few in
         let others = c.few in
-        let rows = few_changes schema.tables w (valid_writable v) may in
+        let rows = few_row_changes schema.tables w (valid_writable v) may in
         let moves = moves_few schema w v in
         record {
           some = omega (arith, long);
@@ -94,14 +94,16 @@ module _ (schema : Schema) (rows : Rows) (others : List Pair) (w : Write) where
 
   pub whole_made : (made : Rows) (changes more all : List Coded) → effect schema.tables rows w ≡ Ok made → MakesRows schema.tables rows (counter_pairs (counters_in schema) rows ++ others) w changes made → MakesCounts schema rows others w made more → all ≡ changes ++ more → PlansWhole schema rows others w (planned.Changes all)
   whole_made made changes more all is r m both =
-      subst (λ (result : Result Rows Refusal). MatchResult result (MakesWhole schema rows others all) (λ refusal. ⊥)) (sym (counted_made made is m.no_full))
+      subst (λ (result : Result Rows Refusal). MatchResult result (MakesWhole schema rows others w all) (λ refusal. ⊥)) (sym (counted_made made is m.no_full))
       (record {
-        content = ap (λ (l : List Change). changed_content l (all_pairs schema.tables (counters_in schema) rows others))
-            (ap (map change_of) both ∙ map-append change_of changes more ∙ ap (λ (l : List Change). l ++ map change_of more) r.changes_are)
-            ∙ m.content;
+        changes_are = parts ∙ ap (λ (l : List Change). changes_of schema.tables rows w ++ l) m.changes_are;
+        content = ap (λ (l : List Change). changed_content l (all_pairs schema.tables (counters_in schema) rows others)) parts ∙ m.content;
         keeps = r.keeps;
         few = m.few;
       })
+    where
+      parts : map change_of all ≡ changes_of schema.tables rows w ++ map change_of more
+      parts = ap (map change_of) both ∙ map-append change_of changes more ∙ ap (λ (l : List Change). l ++ map change_of more) r.changes_are
 
 -- where the write has an effect, its rows
 pub record HasMade (tables : List Table) (rows : Rows) (others : List Pair) (w : Write) (changes : List Coded) : Type 0 where
@@ -119,8 +121,8 @@ has_made tables rows others w changes h = by (effect tables rows w) refl h
 -- ---- what is left
 
 -- enough for the counters' reads behind those of the tests
-pub left_for_counters : (schema : Schema) (w : Write) (a b : World) → Reads a b (write_tests schema.tables w).ops (write_tests schema.tables w).entries → Affords a.allowed (whole_bound schema w).ops (whole_bound schema w).entries → Affords b.allowed (counter_reads (counters_in schema) w) (counter_reads (counters_in schema) w)
-left_for_counters schema w a b r left = let ops = left.ops_left in let entries = left.entries_left in record { ops_left = omega (arith, r.spent_ops, r.few_ops); entries_left = omega (arith, r.spent_entries, r.few_entries) }
+pub left_for_counters : (removers : ℕ) (schema : Schema) (w : Write) (a b : World) → Reads a b (tests_behind removers schema.tables w).ops (tests_behind removers schema.tables w).entries → Affords a.allowed (reads_behind removers schema w).ops (reads_behind removers schema w).entries → Affords b.allowed (counter_reads (counters_in schema) w) (counter_reads (counters_in schema) w)
+left_for_counters removers schema w a b r left = let ops = left.ops_left in let entries = left.entries_left in record { ops_left = omega (arith, r.spent_ops, r.few_ops); entries_left = omega (arith, r.spent_entries, r.few_entries) }
 
 -- enough for the changes behind all reads
 pub left_for_changes : (schema : Schema) (w : Write) (a b : World) → Reads a b (whole_reads schema w).ops (whole_reads schema w).entries → Affords a.allowed (whole_bound schema w).ops (whole_bound schema w).entries → Affords b.allowed (whole_ops schema w) 0

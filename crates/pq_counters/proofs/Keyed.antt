@@ -1,12 +1,12 @@
 -- The keys of the groups of a move, in place of the values that they are made of.
-use Rattle.std.proofs.Common.{◌≡◌, ℕ, ◌+◌, List, Option, Some, None, true, refl, ◌∙◌, arith}
+use Rattle.std.proofs.Common.{◌≡◌, ℕ, ◌+◌, List, Option, Some, None, true, refl, arith}
 use Rattle.std.specs.Prelude.{IfSome}
 use Rattle.pq_base.specs.declared.value.Value.{Value}
 use Rattle.pq_content.specs.Pairs.{is_of_counters}
 use Rattle.pq_store.specs.Content.{Content}
-use Rattle.pq_calls.specs.Calls.{Uses, seen_world}
-use Rattle.pq_calls.specs.declared.calls.Calls.{Calls}
-use Rattle.pq_calls.proofs.Steps.{reads_then}
+use Rattle.pq_pending.specs.Calls.{Uses}
+use Rattle.pq_pending.specs.declared.calls.PendingCalls.{PendingCalls}
+use Rattle.pq_pending.proofs.Steps.{uses_then}
 use Rattle.pq_tallies.specs.Moves.{group_key}
 use Rattle.pq_counters.specs.Steps.{key_count, some_count}
 
@@ -19,10 +19,5 @@ keyed_group number None = tt
 keyed_group number (Some values) = refl
 
 -- two calls, one behind the other
-pub uses_both : {S L : Type 0} (content : S → Option Content) (faults : S → ℕ) (a b c : Calls S L) (n m p q : ℕ) → n ≡ p → m ≡ q → Uses content faults a b n n → Uses content faults b c m m → Uses content faults a c (p + q) (p + q)
-uses_both content faults a b c n m p q first second u v = record {
-  same_store = v.same_store ∙ u.same_store;
-  same_allowance = v.same_allowance ∙ u.same_allowance;
-  same_meter = v.same_meter ∙ u.same_meter;
-  reads = reads_then (seen_world content faults a) (seen_world content faults b) (seen_world content faults c) n n m m (p + q) (p + q) u.reads v.reads (omega arith) (omega arith);
-}
+pub uses_both : {S L : Type 0} (content : S → Option Content) (faults : S → ℕ) (a b c : PendingCalls S L) (n m p q : ℕ) → n ≡ p → m ≡ q → Uses content faults a b n n → Uses content faults b c m m → Uses content faults a c (p + q) (p + q)
+uses_both content faults a b c n m p q first second u v = uses_then content faults a b c n n m m (p + q) (p + q) u v (omega arith) (omega arith)

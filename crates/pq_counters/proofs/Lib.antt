@@ -1,3 +1,4 @@
+pub mod Behind
 pub mod Keyed
 pub mod Counting
 pub mod Found
@@ -6,6 +7,7 @@ pub mod Loop
 pub mod Moving
 pub mod Own
 pub mod Showing
+pub mod Short
 pub mod Small
 pub mod Told
 pub mod Within

@@ -1,6 +1,6 @@
 -- The moves of counters' groups: how long their keys are, how many there are, and what a told content has for them.
-use Rattle.std.proofs.Common.{◌≡◌, ℕ, ◌+◌, ◌*◌, ◌≤◌, ◌<◌, ◌^◌, Bool, true, false, cond, ◌&&◌, ◌==◌, List, [], ◌∷◌, ◌++◌, length, replicate, Option, Some, None, refl, sym, ap, ◌∙◌, subst, arith}
-use Rattle.std.specs.List.{find, sum_by}
+use Rattle.std.proofs.Common.{◌≡◌, ℕ, ◌+◌, ◌*◌, ◌≤◌, Bool, true, false, cond, ◌&&◌, ◌==◌, List, [], ◌∷◌, ◌++◌, length, replicate, Option, Some, None, refl, sym, ap, ◌∙◌, subst, arith}
+use Rattle.std.specs.List.{AllByRecursion, find, sum_by}
 use Rattle.std.specs.Prelude.{All, IfSome, filter, option_map}
 use Rattle.std.proofs.lemmas.Bool.{eqb-true, eq-eqb, false≢true}
 use Rattle.std.proofs.lemmas.List.{length-map}
@@ -20,12 +20,12 @@ use Rattle.pq_schema.specs.Tables.{table_at}
 use Rattle.pq_schema.specs.Valid.{IsValid}
 use Rattle.pq_content.specs.Pairs.{Pair}
 use Rattle.pq_content.specs.Tables.{Rows, IsTableNumber, types_of, cells, value_of, row_at, same_values}
-use Rattle.pq_content.proofs.Lengths.{values_within, length-code_of}
+use Rattle.pq_content.proofs.Lengths.{length-code_of}
 use Rattle.pq_content.proofs.Values.{fit_at, same_values_decides}
-use Rattle.pq_row_code.specs.RowCode.{row_code}
+use Rattle.pq_row_code.specs.RowCode.{IsShort}
 use Rattle.pq_store.specs.Content.{Content}
-use Rattle.pq_index_keep.proofs.Coding.{whole_short}
-use Rattle.pq_index_keep.proofs.Inserting.{writable_at}
+use Rattle.pq_index_keep.proofs.Coding.{fit_texts}
+use Rattle.pq_index_keep.proofs.Inserting.{writable_at, each_by}
 use Rattle.pq_index_keep.proofs.Updating.{kept_values}
 use Rattle.pq_index_keep.specs.Sound.{AreWritable}
 use Rattle.pq_index_keep.specs.Tested.{touches, scope_of, with_sets}
@@ -37,6 +37,7 @@ use Rattle.pq_tallies.specs.Counters.{counter_key, HoldsCounted}
 use Rattle.pq_tallies.specs.Defined.{NumberedCounter, IsCounter, counters_in, counter_numbered, group_types}
 use Rattle.pq_tallies.specs.Moves.{GroupMove, no_move, group_in, moved, move_in, move_changes, moves_changes, is_full_group, lacks_count, first_full}
 use Rattle.pq_tallies.specs.Writes.{written_table, old_row, new_row}
+use Rattle.pq_counters.proofs.Short.{cells_within}
 use Rattle.pq_counters.specs.Bounds.{most_moves, all_moves}
 use Rattle.pq_counters.specs.Steps.{some_count, move_count, moves_of, IsSmallGroup, IsSmallMove, MovesLittle, TellsGroup, TellsMove, AreOfTable}
 use Rattle.pq_tallies.proofs.Defined.{schema_counters, numbered_in}
@@ -79,18 +80,18 @@ if_some P Q (Some x) f h = f x h
 
 -- ---- lengths of keys
 
-small_key : (c : NumberedCounter) (row : List Value) → length c.cols ≤ 4 → length (row_code row) ≤ 40000 → length (counter_key c.number (cells c.cols row)) < 2 ^ 32
+small_key : (c : NumberedCounter) (row : List Value) → length c.cols ≤ 4 → AllByRecursion IsShort row → length (counter_key c.number (cells c.cols row)) ≤ 9000
 small_key c row few short =
     let values = cells c.cols row in
-    let most = length-code_of 40000 (replicate (length values) Asc) values (values_within 40000 row c.cols short) in
+    let most = length-code_of 1000 (replicate (length values) Asc) values (cells_within row c.cols short) in
     let long : length values ≡ length c.cols = length-map c.cols (value_of row) in
-    let times : length c.cols * 80009 ≤ 4 * 80009 = mul-le-mul_right 80009 few in
-    let same : length values * 80009 ≡ length c.cols * 80009 = ap (λ (n : ℕ). n * 80009) long in
+    let times : length c.cols * 2009 ≤ 4 * 2009 = mul-le-mul_right 2009 few in
+    let same : length values * 2009 ≡ length c.cols * 2009 = ap (λ (n : ℕ). n * 2009) long in
     omega arith
 
 small_move : (tables : List Table) (t : ℕ) (old new : Option (List Value)) (c : NumberedCounter) → AreWritable tables → IsTableNumber tables t → AreOfTable tables t old new → IsCounter tables c → IsSmallMove c.number (move_in t old new c)
 small_move tables t old new c sound number rows is =
-    let key = λ (row : List Value) (fits : AllFit (types_of (table_at tables t)) row). small_key c row is.few (whole_short tables (table_at tables t) (writable_at tables t sound number) row fits) in
+    let key = λ (row : List Value) (fits : AllFit (types_of (table_at tables t)) row). small_key c row is.few (each_by IsShort row (fit_texts tables (table_at tables t) (writable_at tables t sound number) row fits)) in
     let both = both_groups (λ d group. IsSmallGroup d.number group) (λ d. tt) t old new c
     (λ _. if_some (AllFit (types_of (table_at tables t))) (λ row. IsSmallGroup c.number (Some (cells c.cols row))) old key rows.goes)
     (λ _. if_some (AllFit (types_of (table_at tables t))) (λ row. IsSmallGroup c.number (Some (cells c.cols row))) new key rows.comes) in

@@ -89,7 +89,7 @@ pub all_taken : (w : Write) (schema : Schema) (count moves : ℕ) → count ≡ 
 all_taken w schema count moves all is = is ∙ ap (λ (l : List Definition). all_moves (numbered_from 1 l) w) (ap (λ n. take n schema.definitions) all ∙ take_all (length schema.definitions) schema.definitions (omega arith))
 
 -- at most two for each definition
-most_few : (w : Write) (c : NumberedCounter) → most_moves w c ≤ 2
+pub most_few : (w : Write) (c : NumberedCounter) → most_moves w c ≤ 2
 most_few (write.Insert t row) c = elim (t == c.table) as (λ b. cond b 1 0 ≤ 2) [ true ↦ omega arith | false ↦ omega arith ]
 most_few (write.Update t key sets conds) c = elim ((t == c.table) && touches (scope_of sets) c.cols) as (λ b. cond b 2 0 ≤ 2) [ true ↦ omega arith | false ↦ omega arith ]
 most_few (write.Delete t key conds) c = elim (t == c.table) as (λ b. cond b 1 0 ≤ 2) [ true ↦ omega arith | false ↦ omega arith ]
@@ -117,14 +117,14 @@ moves_few schema w v = let most = from 1 schema.definitions in let few = (valid_
 
 -- ---- bounds
 
-pub few_changes : (tables : List Table) (w : Write) → AreWritable tables → IsWrite tables w → most_changes tables w ≤ 33
-few_changes tables (write.Insert t row) sound may = let few = (writable_at tables t sound may.number).made.few_indexes in omega arith
-few_changes tables (write.Update t key sets conds) sound may =
+pub few_row_changes : (tables : List Table) (w : Write) → AreWritable tables → IsWrite tables w → most_changes tables w ≤ 33
+few_row_changes tables (write.Insert t row) sound may = let few = (writable_at tables t sound may.number).made.few_indexes in omega arith
+few_row_changes tables (write.Update t key sets conds) sound may =
     let table = table_at tables t in
     let few = (writable_at tables t sound may.number).made.few_indexes in
     let some = count_by-le-length (touches_index (scope_of sets) table) table.indexes in
     omega arith
-few_changes tables (write.Delete t key conds) sound may = let few = (writable_at tables t sound may.number).made.few_indexes in omega arith
+few_row_changes tables (write.Delete t key conds) sound may = let few = (writable_at tables t sound may.number).made.few_indexes in omega arith
 
 pub some_changes : (tables : List Table) (w : Write) → 1 ≤ most_changes tables w
 some_changes tables (write.Insert t row) = omega arith
@@ -154,7 +154,7 @@ whole_few schema w v may =
     let rows = small_of schema.tables w (valid_writable v) (valid_small v).tables may in
     let moves = moves_few schema w v in
     let reads = reads_few (counters_in schema) w in
-    let changes = few_changes schema.tables w (valid_writable v) may in
+    let changes = few_row_changes schema.tables w (valid_writable v) may in
     let commits = few_ops (most_changes schema.tables w + all_moves (counters_in schema) w) in
     let ops = rows.ops in
     let entries = rows.entries in

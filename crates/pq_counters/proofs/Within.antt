@@ -10,10 +10,10 @@ use Rattle.pq_schema.specs.Valid.{IsValid}
 use Rattle.pq_store.specs.Content.{Content}
 use Rattle.pq_store.specs.Counts.{AllowedCounts}
 use Rattle.pq_store.specs.declared.damage.Broke.{Broke}
-use Rattle.pq_calls.specs.Calls.{Uses, seen_world}
+use Rattle.pq_pending.specs.Calls.{Uses}
 use Rattle.pq_calls.specs.World.{World, Affords, Explains, where_told}
-use Rattle.pq_calls.specs.declared.calls.Calls.{Calls}
-use Rattle.pq_calls.proofs.Steps.{reads_within}
+use Rattle.pq_pending.specs.declared.calls.PendingCalls.{PendingCalls}
+use Rattle.pq_pending.proofs.Steps.{uses_within}
 use Rattle.pq_index_keep.specs.Effects.{effect}
 use Rattle.pq_index_keep.specs.Sound.{IsWrite}
 use Rattle.pq_index_keep.specs.declared.plan.Planned.{Planned}
@@ -32,13 +32,8 @@ use Rattle.pq_counters.proofs.Showing.{IsReadBy, moves_explain}
 pub affords_less : (allowed : AllowedCounts) (n m : ℕ) → n ≤ m → Affords allowed m m → Affords allowed n n
 affords_less allowed n m le left = let ops = left.ops_left in let entries = left.entries_left in record { ops_left = omega arith; entries_left = omega arith }
 
-pub uses_more : {S L : Type 0} (content : S → Option Content) (faults : S → ℕ) (a b : Calls S L) (n m : ℕ) → n ≤ m → Uses content faults a b n n → Uses content faults a b m m
-uses_more content faults a b n m le u = record {
-  same_store = u.same_store;
-  same_allowance = u.same_allowance;
-  same_meter = u.same_meter;
-  reads = reads_within (seen_world content faults a) (seen_world content faults b) n n m m u.reads le le;
-}
+pub uses_more : {S L : Type 0} (content : S → Option Content) (faults : S → ℕ) (a b : PendingCalls S L) (n m : ℕ) → n ≤ m → Uses content faults a b n n → Uses content faults a b m m
+uses_more content faults a b n m le u = uses_within content faults a b n n m m u le le
 
 -- the reads of counters are at least as many as the pairs that may change
 pub moves_read : (counters : List NumberedCounter) (w : Write) → all_moves counters w ≤ counter_reads counters w

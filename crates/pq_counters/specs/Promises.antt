@@ -9,6 +9,7 @@ use Rattle.pq_content.specs.Pairs.{Pair, changed_content, is_of_counters}
 use Rattle.pq_content.specs.Standing.{change_of}
 use Rattle.pq_content.specs.Tables.{Rows}
 use Rattle.pq_index_keep.specs.Effects.{changes_of}
+use Rattle.pq_index_keep.specs.Promises.{IsShortChange}
 use Rattle.pq_index_keep.specs.declared.plan.Planned.{Planned}
 use Rattle.pq_index_keep.specs.declared.plan.Planned.TheVariants as planned
 use Rattle.pq_index_keep.specs.declared.write.Write.{Write}
@@ -16,10 +17,11 @@ use Rattle.pq_tallies.specs.Counters.{all_pairs, AreFewRows}
 use Rattle.pq_tallies.specs.Defined.{NumberedCounter, counters_in}
 use Rattle.pq_tallies.specs.Writes.{counter_changes, counter_full, full_refusal}
 
--- a change of a counter's pair, with lengths that an intent can hold
+-- a short change of a counter's pair, with lengths that an intent can hold
 pub record IsCounterChange (change : Coded) : Type 0 where
   pub of_counters : is_of_counters change.key ≡ true
   pub coded : IsChange change
+  pub short : IsShortChange (change_of change)
 
 -- changes of counters' pairs, at most so many
 pub record AreCounterChanges (most : ℕ) (changes : List Coded) : Type 0 where

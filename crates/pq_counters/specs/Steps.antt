@@ -1,5 +1,5 @@
 -- The steps of a plan: what is read of a group, what is changed of it, and what shows damage there.
-use Rattle.std.specs.Prelude.{◌≡◌, ◌⊎◌, ℕ, ◌+◌, ◌≤◌, ◌<◌, ◌^◌, Bool, true, not, List, ◌++◌, map, length, Option, Some, None, option_map, is_none, is_some, if◌then◌else◌, IfSome, All}
+use Rattle.std.specs.Prelude.{◌≡◌, ◌⊎◌, ℕ, ◌+◌, ◌≤◌, ◌<◌, Bool, true, not, List, ◌++◌, map, length, Option, Some, None, option_map, is_none, is_some, if◌then◌else◌, IfSome, All}
 use Rattle.std.specs.FinMap.{get}
 use Rattle.pq_base.specs.declared.refusal.Refusal.{Refusal}
 use Rattle.pq_base.specs.declared.value.Value.{Value}
@@ -77,9 +77,10 @@ moves_at schema t old new number = moves_of t old new (counter_numbered schema n
 
 -- ---- lengths
 
+-- the key of a group of at most four values, of which a text has at most 1,000 bytes
 abbrev pub IsSmallKey : Option (List ℕ) → Type 0
 IsSmallKey None = Unit {0}
-IsSmallKey (Some key) = length key < 2 ^ 32
+IsSmallKey (Some key) = length key ≤ 9000
 
 abbrev pub IsSmallGroup : ℕ → Option (List Value) → Type 0
 IsSmallGroup number group = IsSmallKey (group_key number group)

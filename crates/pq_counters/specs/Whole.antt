@@ -1,21 +1,22 @@
 -- What the whole plan of a write promises: its changes of rows and entries, and behind them those of its counters.
-use Rattle.std.specs.Prelude.{◌≡◌, ◌⊎◌, ℕ, ◌+◌, ◌≤◌, List, map, length, Err, MatchResult}
+use Rattle.std.specs.Prelude.{◌≡◌, ◌⊎◌, ℕ, ◌+◌, ◌*◌, ◌≤◌, List, ◌++◌, map, length, Err, MatchResult}
 use Rattle.pq_base.specs.declared.number.Bound.{Bound}
 use Rattle.pq_base.specs.declared.refusal.Refusal.{Refusal}
 use Rattle.pq_row_code.specs.declared.changes.Change.{Change as Coded}
 use Rattle.pq_row_code.specs.Changes.{AreChanges}
 use Rattle.pq_schema.specs.Schema.{Schema}
-use Rattle.pq_content.specs.Pairs.{Pair, changed_content}
+use Rattle.pq_content.specs.Pairs.{Change, Pair, changed_content}
 use Rattle.pq_content.specs.Standing.{change_of, AreIntended}
 use Rattle.pq_content.specs.Tables.{Rows, Keeps}
-use Rattle.pq_index_keep.specs.Bounds.{most_changes, write_tests}
+use Rattle.pq_index_keep.specs.Bounds.{counted, most_changes, write_tests}
+use Rattle.pq_index_keep.specs.Effects.{changes_of}
 use Rattle.pq_index_keep.specs.Refusals.{CanRefuse}
 use Rattle.pq_index_keep.specs.declared.plan.Planned.{Planned}
 use Rattle.pq_index_keep.specs.declared.plan.Planned.TheVariants as planned
 use Rattle.pq_index_keep.specs.declared.write.Write.{Write}
 use Rattle.pq_tallies.specs.Counters.{all_pairs, AreFewRows}
 use Rattle.pq_tallies.specs.Defined.{counters_in}
-use Rattle.pq_tallies.specs.Writes.{counted_effect}
+use Rattle.pq_tallies.specs.Writes.{counter_changes, counted_effect}
 use Rattle.pq_counters.specs.Bounds.{all_moves, counter_reads}
 use Rattle.pq_counters.specs.Promises.{CanBeFull}
 
@@ -25,6 +26,17 @@ whole_reads schema write = record {
   ops = (write_tests schema.tables write).ops + counter_reads (counters_in schema) write;
   entries = (write_tests schema.tables write).entries + counter_reads (counters_in schema) write;
 }
+
+-- behind so many writes of a batch that remove pairs, each count of a test may read as many more
+abbrev pub reads_behind : ℕ → Schema → Write → Bound
+reads_behind removers schema write = record {
+  ops = (whole_reads schema write).ops;
+  entries = (whole_reads schema write).entries + counted schema.tables write * removers;
+}
+
+-- the changes of rows, entries and counters that a write makes where nothing refuses it
+abbrev pub changes_by : Schema → Rows → Write → List Change
+changes_by schema rows write = changes_of schema.tables rows write ++ counter_changes schema rows write
 
 -- the greatest number of pairs that change
 abbrev pub whole_changes : Schema → Write → ℕ
@@ -50,8 +62,9 @@ RefusesWhole schema write (planned.Changes changes) = Unit {0}
 RefusesWhole schema write (planned.Refused why) = CanRefuseWhole schema write why
 
 -- the changes make the content of the effect's rows of that of these, and these keep their tables and counters
-pub record MakesWhole (schema : Schema) (rows : Rows) (others : List Pair) (changes : List Coded) (made : Rows) :
-    Type 0 where
+pub record MakesWhole (schema : Schema) (rows : Rows) (others : List Pair) (write : Write) (changes : List Coded)
+    (made : Rows) : Type 0 where
+  pub changes_are : map change_of changes ≡ changes_by schema rows write
   pub content : changed_content (map change_of changes) (all_pairs schema.tables (counters_in schema) rows others)
       ≡ all_pairs schema.tables (counters_in schema) made others
   pub keeps : Keeps schema.tables made
@@ -60,5 +73,5 @@ pub record MakesWhole (schema : Schema) (rows : Rows) (others : List Pair) (chan
 -- over these rows, the changes where the write has an effect, and else its refusal
 abbrev pub PlansWhole : Schema → Rows → List Pair → Write → Planned → Type 0
 PlansWhole schema rows others write (planned.Changes changes) =
-    MatchResult (counted_effect schema rows write) (MakesWhole schema rows others changes) (λ refusal. ⊥)
+    MatchResult (counted_effect schema rows write) (MakesWhole schema rows others write changes) (λ refusal. ⊥)
 PlansWhole schema rows others write (planned.Refused refusal) = counted_effect schema rows write ≡ Err refusal

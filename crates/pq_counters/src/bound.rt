@@ -3,10 +3,11 @@ ghost use Rattle.std.specs.Prelude.{◌≡◌, ◌≤◌, ◌<◌, ◌+◌, ◌^
 ghost use Rattle.pq_index_keep.specs.Sound.{IsWrite};
 ghost use Rattle.pq_tallies.specs.Defined.{NumberedCounter, counters_in, numbered_of, with_number};
 ghost use Rattle.pq_counters.specs.Bounds.{update_moves, most_moves, rereading, all_moves, counter_reads, counter_bound, whole_bound};
+ghost use Rattle.pq_counters.specs.Whole.{whole_changes, reads_behind};
 ghost use Rattle.pq_counters.specs.Steps.{HasSmallColumns, HasSmallCounter};
 
 use pq_base::Bound;
-use pq_index_keep::{Scope, SetCol, Write, commit_ops, most_changes, write_bound};
+use pq_index_keep::{Scope, SetCol, Write, commit_ops, most_changes, tests_behind, write_bound};
 use pq_schema::{Catalog, Counter, Definition};
 
 /// How many pairs of the counter an UPDATE of these columns changes at most.
@@ -90,6 +91,33 @@ fn counter_reads(moves: usize, write: &Write) -> usize
         return 0;
     }
     rereading(write) + moves
+}
+
+/// The greatest number of pairs that the write changes, of rows, entries and counters.
+pub fn whole_changes(catalog: &Catalog, write: &Write) -> usize
+    requires { IsWrite catalog.now.tables write.now }
+    ensures changes { result ≡ whole_changes catalog.now write.now }
+    ensures few { result ≤ 41 }
+{
+    catalog.known();
+    most_changes(catalog, write) + all_moves(catalog, write)
+}
+
+/// What the tests of the write and the reads of its counters take at most, behind so many writes that remove pairs.
+pub fn reads_behind(catalog: &Catalog, write: &Write, removers: u32) -> Bound
+    requires write { IsWrite catalog.now.tables write.now }
+    requires few { removers ≤ 256 }
+    ensures reads { result ≡ reads_behind removers catalog.now write.now }
+    ensures ops { result.ops ≤ 2 ^ 20 }
+    ensures entries { result.entries ≤ 2 ^ 20 }
+{
+    catalog.known();
+    let tests = tests_behind(catalog, write, removers);
+    let reads = counter_reads(all_moves(catalog, write), write) as u128;
+    Bound {
+        ops: tests.ops + reads,
+        entries: tests.entries + reads,
+    }
 }
 
 /// What the counters add to the bound of the write: their reads, and the changes of their pairs.

@@ -1,16 +1,18 @@
 //! The number of rows of one group, as it is read and as it changes.
-ghost use Rattle.std.specs.Prelude.{◌≡◌, ◌≤◌, ◌<◌, ◌-◌, ◌^◌, ℕ, length, None, IfOk, IfErr, IfSome};
+ghost use Rattle.std.specs.Prelude.{◌≡◌, ◌≤◌, ◌-◌, ℕ, length, None, IfOk, IfErr, IfSome};
 ghost use Rattle.std.specs.FinMap.{get as value_at};
 ghost use Rattle.pq_row_code.specs.Changes.{IsChange};
 ghost use Rattle.pq_store.specs.Breaks.{IsAnswered};
-ghost use Rattle.pq_calls.specs.Calls.{Uses, Fails};
+ghost use Rattle.pq_pending.specs.Calls.{Uses, Fails, seen, answers_of};
 ghost use Rattle.pq_calls.specs.World.{Affords};
+ghost use Rattle.pq_content.specs.Standing.{change_of};
+ghost use Rattle.pq_index_keep.specs.Promises.{IsShortChange};
 ghost use Rattle.pq_tallies.specs.Counters.{most_count, stored_count};
 ghost use Rattle.pq_counters.specs.Evidence.{IsCounted, IsNoCountAt};
 ghost use Rattle.pq_counters.specs.Steps.{TellsCount, IsJoined, SpoilsLeft};
 
 use pq_base::Bytes;
-use pq_calls::Calls;
+use pq_pending::PendingCalls;
 use pq_row_code::Change;
 use pq_store::{Broke, Damage, Store};
 use pq_tallies::{count_of, next_count, stored_count};
@@ -28,16 +30,16 @@ pub(crate) struct GroupCount {
 pub(crate) fn group_count<S: Store<L>, L: Ledger>(
     alloc: Global,
     at: Bytes,
-    calls: &mut Calls<S, L>,
+    calls: &mut PendingCalls<S, L>,
 ) -> Result<GroupCount, Broke>
     requires share { Affords calls.old.allowance.now 1 1 }
     ensures uses { Uses S.content S.faults calls.old calls.new 1 1 }
     ensures cause { IfErr result (Fails (IsNoCountAt at) S.content S.faults calls.old calls.new) }
-    ensures answered { IfErr result (IsAnswered S.answers) }
+    ensures answered { IfErr result (IsAnswered (answers_of S.answers calls.old)) }
     ensures at { IfOk result (λ group. group.at ≡ at) }
     ensures few { IfOk result (λ group. group.count ≤ most_count) }
-    ensures none { IfOk result (λ group. group.count ≡ 0 → S.answers at None) }
-    ensures counted { IfOk result (λ group. IfSome (S.content calls.old.store.now)
+    ensures none { IfOk result (λ group. group.count ≡ 0 → answers_of S.answers calls.old at None) }
+    ensures counted { IfOk result (λ group. IfSome (seen S.content calls.old)
         (λ c. IsCounted (value_at c at) group.count)) }
 {
     let Some(code) = calls.get(alloc, at.items())? else {
@@ -56,16 +58,17 @@ pub(crate) fn group_count<S: Store<L>, L: Ledger>(
 pub(crate) fn left<S: Store<L>, L: Ledger>(
     alloc: Global,
     at: Bytes,
-    calls: &mut Calls<S, L>,
+    calls: &mut PendingCalls<S, L>,
 ) -> Result<Change, Broke>
-    requires small { length at < 2 ^ 32 }
+    requires small { length at ≤ 9000 }
     requires share { Affords calls.old.allowance.now 1 1 }
     ensures uses { Uses S.content S.faults calls.old calls.new 1 1 }
     ensures cause { IfErr result (Fails (SpoilsLeft at) S.content S.faults calls.old calls.new) }
-    ensures answered { IfErr result (IsAnswered S.answers) }
+    ensures answered { IfErr result (IsAnswered (answers_of S.answers calls.old)) }
     ensures key { IfOk result (λ change. change.key ≡ at) }
     ensures coded { IfOk result IsChange }
-    ensures answer { IfOk result (λ change. (n : ℕ) → TellsCount (S.content calls.old.store.now) at n
+    ensures short { IfOk result (λ change. IsShortChange (change_of change)) }
+    ensures answer { IfOk result (λ change. (n : ℕ) → TellsCount (seen S.content calls.old) at n
         → change.new ≡ stored_count (n - 1)) }
 {
     let group = group_count(alloc, at, calls)?;
@@ -83,16 +86,17 @@ pub(crate) fn left<S: Store<L>, L: Ledger>(
 pub(crate) fn joined<S: Store<L>, L: Ledger>(
     alloc: Global,
     at: Bytes,
-    calls: &mut Calls<S, L>,
+    calls: &mut PendingCalls<S, L>,
 ) -> Result<Option<Change>, Broke>
-    requires small { length at < 2 ^ 32 }
+    requires small { length at ≤ 9000 }
     requires share { Affords calls.old.allowance.now 1 1 }
     ensures uses { Uses S.content S.faults calls.old calls.new 1 1 }
     ensures cause { IfErr result (Fails (IsNoCountAt at) S.content S.faults calls.old calls.new) }
-    ensures answered { IfErr result (IsAnswered S.answers) }
+    ensures answered { IfErr result (IsAnswered (answers_of S.answers calls.old)) }
     ensures key { IfOk result (λ found. IfSome found (λ change. change.key ≡ at)) }
     ensures coded { IfOk result (λ found. IfSome found IsChange) }
-    ensures answer { IfOk result (λ found. (n : ℕ) → TellsCount (S.content calls.old.store.now) at n
+    ensures short { IfOk result (λ found. IfSome found (λ change. IsShortChange (change_of change))) }
+    ensures answer { IfOk result (λ found. (n : ℕ) → TellsCount (seen S.content calls.old) at n
         → IsJoined n found) }
 {
     let group = group_count(alloc, at, calls)?;

@@ -10,7 +10,7 @@ mod reading;
 mod steps;
 mod whole;
 
-pub use bound::{counter_bound, whole_bound};
+pub use bound::{counter_bound, reads_behind, whole_bound, whole_changes};
 pub use pq_tallies::{MOST_COUNT, counter_key, next_count};
 pub use read::read_counter;
 pub use reading::plan_counters;

@@ -8,7 +8,8 @@ ghost use Rattle.pq_schema.specs.Valid.{IsValid};
 ghost use Rattle.pq_content.specs.Pairs.{Pair};
 ghost use Rattle.pq_content.specs.Tables.{Rows, AllOfKinds, IsTableNumber, key_types, types_of, shape_of, row_at};
 ghost use Rattle.pq_store.specs.Breaks.{IsUndamaged, IsAnswered};
-ghost use Rattle.pq_calls.specs.Calls.{Uses, Fails};
+ghost use Rattle.pq_pending.specs.Calls.{Uses, Fails, seen, answers_of};
+ghost use Rattle.pq_pending.specs.Pending.{seen_content, seen_answers};
 ghost use Rattle.pq_calls.specs.World.{world, Affords, Reads, Explains, where_told};
 ghost use Rattle.pq_index_keep.specs.Effects.{effect};
 ghost use Rattle.pq_index_keep.specs.Promises.{IsReadFor, FitsItsTable, IsNewFor};
@@ -24,8 +25,8 @@ ghost use Rattle.pq_counters.specs.Steps.{ComesInPlace};
 use crate::bound::all_moves;
 use crate::steps::plan_moves;
 use pq_base::{List, Row};
-use pq_calls::Calls;
 use pq_index_keep::{Cond, Planned, SetCol, Write};
+use pq_pending::{Pending, PendingCalls};
 use pq_schema::Catalog;
 use pq_store::{Allowance, Broke, Meter, Store};
 use std::alloc::Global;
@@ -37,7 +38,7 @@ fn plan_insert<S: Store<L>, L: Ledger>(
     catalog: &Catalog,
     table: u8,
     row: &Row,
-    calls: &mut Calls<S, L>,
+    calls: &mut PendingCalls<S, L>,
 ) -> Result<Planned, Broke>
     requires valid { IsValid catalog.now }
     requires insert { IsInsert catalog.now.tables table row.now }
@@ -49,12 +50,12 @@ fn plan_insert<S: Store<L>, L: Ledger>(
         (all_moves (counters_in catalog.now) (Write.Insert table row.now)) }
     ensures cause { IfErr result (Fails (where_told (ShowsCounted catalog.now)) S.content
         S.faults calls.old calls.new) }
-    ensures answered { IfErr result (IsAnswered S.answers) }
+    ensures answered { IfErr result (IsAnswered (answers_of S.answers calls.old)) }
     ensures plan { IfOk result (IsCountedWithin
         (all_moves (counters_in catalog.now) (Write.Insert table row.now))) }
     ensures can { IfOk result (RefusesAsFull catalog.now) }
     ensures answer { IfOk result (λ planned. (rows made : Rows) (others : List Pair)
-        → HoldsCounted (S.content calls.old.store.now) catalog.now rows others
+        → HoldsCounted (seen S.content calls.old) catalog.now rows others
         → effect catalog.now.tables rows (Write.Insert table row.now) ≡ Ok made
         → Counts catalog.now rows others (Write.Insert table row.now) made planned) }
 {
@@ -69,12 +70,12 @@ fn plan_removal<S: Store<L>, L: Ledger>(
     key: &Row,
     conds: &List<Cond>,
     old: &Row,
-    calls: &mut Calls<S, L>,
+    calls: &mut PendingCalls<S, L>,
 ) -> Result<Planned, Broke>
     requires valid { IsValid catalog.now }
     requires delete { IsDelete catalog.now.tables table key.now conds.now }
     requires fits { AllFit (types_of (table_at catalog.now.tables table)) old.now }
-    requires stored { IfSome (S.content calls.old.store.now)
+    requires stored { IfSome (seen S.content calls.old)
         (IsStoredAt (table_at catalog.now.tables table) table key.now old.now) }
     requires share { Affords calls.old.allowance.now
         (all_moves (counters_in catalog.now) (Write.Delete table key.now conds.now))
@@ -84,12 +85,12 @@ fn plan_removal<S: Store<L>, L: Ledger>(
         (all_moves (counters_in catalog.now) (Write.Delete table key.now conds.now)) }
     ensures cause { IfErr result (Fails (where_told (ShowsCounted catalog.now)) S.content
         S.faults calls.old calls.new) }
-    ensures answered { IfErr result (IsAnswered S.answers) }
+    ensures answered { IfErr result (IsAnswered (answers_of S.answers calls.old)) }
     ensures plan { IfOk result (IsCountedWithin
         (all_moves (counters_in catalog.now) (Write.Delete table key.now conds.now))) }
     ensures can { IfOk result (RefusesAsFull catalog.now) }
     ensures answer { IfOk result (λ planned. (rows made : Rows) (others : List Pair)
-        → HoldsCounted (S.content calls.old.store.now) catalog.now rows others
+        → HoldsCounted (seen S.content calls.old) catalog.now rows others
         → Some old.now ≡ row_at catalog.now.tables rows table key.now
         → effect catalog.now.tables rows (Write.Delete table key.now conds.now) ≡ Ok made
         → Counts catalog.now rows others (Write.Delete table key.now conds.now) made planned) }
@@ -105,11 +106,11 @@ fn plan_delete<S: Store<L>, L: Ledger>(
     key: &Row,
     conds: &List<Cond>,
     old: &Option<Row>,
-    calls: &mut Calls<S, L>,
+    calls: &mut PendingCalls<S, L>,
 ) -> Result<Planned, Broke>
     requires valid { IsValid catalog.now }
     requires delete { IsDelete catalog.now.tables table key.now conds.now }
-    requires read { IfSome (S.content calls.old.store.now)
+    requires read { IfSome (seen S.content calls.old)
         (λ c. IsReadFor catalog.now.tables (Write.Delete table key.now conds.now) c old.now) }
     requires fits { FitsItsTable catalog.now.tables (Write.Delete table key.now conds.now) old.now }
     requires share { Affords calls.old.allowance.now
@@ -120,12 +121,12 @@ fn plan_delete<S: Store<L>, L: Ledger>(
         (all_moves (counters_in catalog.now) (Write.Delete table key.now conds.now)) }
     ensures cause { IfErr result (Fails (where_told (ShowsCounted catalog.now)) S.content
         S.faults calls.old calls.new) }
-    ensures answered { IfErr result (IsAnswered S.answers) }
+    ensures answered { IfErr result (IsAnswered (answers_of S.answers calls.old)) }
     ensures plan { IfOk result (IsCountedWithin
         (all_moves (counters_in catalog.now) (Write.Delete table key.now conds.now))) }
     ensures can { IfOk result (RefusesAsFull catalog.now) }
     ensures answer { IfOk result (λ planned. (rows made : Rows) (others : List Pair)
-        → HoldsCounted (S.content calls.old.store.now) catalog.now rows others
+        → HoldsCounted (seen S.content calls.old) catalog.now rows others
         → effect catalog.now.tables rows (Write.Delete table key.now conds.now) ≡ Ok made
         → Counts catalog.now rows others (Write.Delete table key.now conds.now) made planned) }
 {
@@ -145,13 +146,13 @@ fn plan_change<S: Store<L>, L: Ledger>(
     conds: &List<Cond>,
     old: &Row,
     new: &Row,
-    calls: &mut Calls<S, L>,
+    calls: &mut PendingCalls<S, L>,
 ) -> Result<Planned, Broke>
     requires valid { IsValid catalog.now }
     requires update { IsUpdate catalog.now.tables table key.now sets.now conds.now }
     requires fits { AllFit (types_of (table_at catalog.now.tables table)) old.now }
     requires comes { ComesInPlace (table_at catalog.now.tables table) sets.now old.now new.now }
-    requires stored { IfSome (S.content calls.old.store.now)
+    requires stored { IfSome (seen S.content calls.old)
         (IsStoredAt (table_at catalog.now.tables table) table key.now old.now) }
     requires share { Affords calls.old.allowance.now
         (all_moves (counters_in catalog.now) (Write.Update table key.now sets.now conds.now))
@@ -161,12 +162,12 @@ fn plan_change<S: Store<L>, L: Ledger>(
         (all_moves (counters_in catalog.now) (Write.Update table key.now sets.now conds.now)) }
     ensures cause { IfErr result (Fails (where_told (ShowsCounted catalog.now)) S.content
         S.faults calls.old calls.new) }
-    ensures answered { IfErr result (IsAnswered S.answers) }
+    ensures answered { IfErr result (IsAnswered (answers_of S.answers calls.old)) }
     ensures plan { IfOk result (IsCountedWithin
         (all_moves (counters_in catalog.now) (Write.Update table key.now sets.now conds.now))) }
     ensures can { IfOk result (RefusesAsFull catalog.now) }
     ensures answer { IfOk result (λ planned. (rows made : Rows) (others : List Pair)
-        → HoldsCounted (S.content calls.old.store.now) catalog.now rows others
+        → HoldsCounted (seen S.content calls.old) catalog.now rows others
         → Some old.now ≡ row_at catalog.now.tables rows table key.now
         → effect catalog.now.tables rows (Write.Update table key.now sets.now conds.now) ≡ Ok made
         → Counts catalog.now rows others (Write.Update table key.now sets.now conds.now) made planned) }
@@ -184,11 +185,11 @@ fn plan_update<S: Store<L>, L: Ledger>(
     conds: &List<Cond>,
     old: &Option<Row>,
     new: &Option<Row>,
-    calls: &mut Calls<S, L>,
+    calls: &mut PendingCalls<S, L>,
 ) -> Result<Planned, Broke>
     requires valid { IsValid catalog.now }
     requires update { IsUpdate catalog.now.tables table key.now sets.now conds.now }
-    requires read { IfSome (S.content calls.old.store.now)
+    requires read { IfSome (seen S.content calls.old)
         (λ c. IsReadFor catalog.now.tables (Write.Update table key.now sets.now conds.now) c old.now) }
     requires fits { FitsItsTable catalog.now.tables (Write.Update table key.now sets.now conds.now) old.now }
     requires new { IsNewFor catalog.now.tables (Write.Update table key.now sets.now conds.now) old.now new.now }
@@ -200,12 +201,12 @@ fn plan_update<S: Store<L>, L: Ledger>(
         (all_moves (counters_in catalog.now) (Write.Update table key.now sets.now conds.now)) }
     ensures cause { IfErr result (Fails (where_told (ShowsCounted catalog.now)) S.content
         S.faults calls.old calls.new) }
-    ensures answered { IfErr result (IsAnswered S.answers) }
+    ensures answered { IfErr result (IsAnswered (answers_of S.answers calls.old)) }
     ensures plan { IfOk result (IsCountedWithin
         (all_moves (counters_in catalog.now) (Write.Update table key.now sets.now conds.now))) }
     ensures can { IfOk result (RefusesAsFull catalog.now) }
     ensures answer { IfOk result (λ planned. (rows made : Rows) (others : List Pair)
-        → HoldsCounted (S.content calls.old.store.now) catalog.now rows others
+        → HoldsCounted (seen S.content calls.old) catalog.now rows others
         → effect catalog.now.tables rows (Write.Update table key.now sets.now conds.now) ≡ Ok made
         → Counts catalog.now rows others (Write.Update table key.now sets.now conds.now) made planned) }
 {
@@ -225,11 +226,11 @@ pub(crate) fn plan_by<S: Store<L>, L: Ledger>(
     write: &Write,
     old: &Option<Row>,
     new: &Option<Row>,
-    calls: &mut Calls<S, L>,
+    calls: &mut PendingCalls<S, L>,
 ) -> Result<Planned, Broke>
     requires valid { IsValid catalog.now }
     requires write { IsWrite catalog.now.tables write.now }
-    requires read { IfSome (S.content calls.old.store.now) (λ c. IsReadFor catalog.now.tables write.now c old.now) }
+    requires read { IfSome (seen S.content calls.old) (λ c. IsReadFor catalog.now.tables write.now c old.now) }
     requires fits { FitsItsTable catalog.now.tables write.now old.now }
     requires new { IsNewFor catalog.now.tables write.now old.now new.now }
     requires share { Affords calls.old.allowance.now
@@ -240,11 +241,11 @@ pub(crate) fn plan_by<S: Store<L>, L: Ledger>(
         (all_moves (counters_in catalog.now) write.now) }
     ensures cause { IfErr result (Fails (where_told (ShowsCounted catalog.now)) S.content
         S.faults calls.old calls.new) }
-    ensures answered { IfErr result (IsAnswered S.answers) }
+    ensures answered { IfErr result (IsAnswered (answers_of S.answers calls.old)) }
     ensures plan { IfOk result (IsCountedWithin (all_moves (counters_in catalog.now) write.now)) }
     ensures can { IfOk result (RefusesAsFull catalog.now) }
     ensures answer { IfOk result (λ planned. (rows made : Rows) (others : List Pair)
-        → HoldsCounted (S.content calls.old.store.now) catalog.now rows others
+        → HoldsCounted (seen S.content calls.old) catalog.now rows others
         → effect catalog.now.tables rows write.now ≡ Ok made
         → Counts catalog.now rows others write.now made planned) }
 {
@@ -282,11 +283,11 @@ fn plan_any<S: Store<L>, L: Ledger>(
     write: &Write,
     old: &Option<Row>,
     new: &Option<Row>,
-    calls: &mut Calls<S, L>,
+    calls: &mut PendingCalls<S, L>,
 ) -> Result<Planned, Broke>
     requires valid { IsValid catalog.now }
     requires write { IsWrite catalog.now.tables write.now }
-    requires read { IfSome (S.content calls.old.store.now) (λ c. IsReadFor catalog.now.tables write.now c old.now) }
+    requires read { IfSome (seen S.content calls.old) (λ c. IsReadFor catalog.now.tables write.now c old.now) }
     requires fits { FitsItsTable catalog.now.tables write.now old.now }
     requires new { IsNewFor catalog.now.tables write.now old.now new.now }
     requires share { Affords calls.old.allowance.now (counter_reads (counters_in catalog.now) write.now)
@@ -295,11 +296,11 @@ fn plan_any<S: Store<L>, L: Ledger>(
         (counter_reads (counters_in catalog.now) write.now) }
     ensures cause { IfErr result (Fails (where_told (ShowsCounted catalog.now)) S.content
         S.faults calls.old calls.new) }
-    ensures answered { IfErr result (IsAnswered S.answers) }
+    ensures answered { IfErr result (IsAnswered (answers_of S.answers calls.old)) }
     ensures plan { IfOk result (IsCountedWithin (all_moves (counters_in catalog.now) write.now)) }
     ensures can { IfOk result (RefusesAsFull catalog.now) }
     ensures answer { IfOk result (λ planned. (rows made : Rows) (others : List Pair)
-        → HoldsCounted (S.content calls.old.store.now) catalog.now rows others
+        → HoldsCounted (seen S.content calls.old) catalog.now rows others
         → effect catalog.now.tables rows write.now ≡ Ok made
         → Counts catalog.now rows others write.now made planned) }
 {
@@ -317,35 +318,41 @@ pub(crate) fn plan_by_rows<S: Store<L>, L: Ledger>(
     write: &Write,
     old: &Option<Row>,
     new: &Option<Row>,
+    pending: &Pending,
     store: &mut S,
     allowance: &mut Allowance,
     meter: &mut Meter<L>,
 ) -> Result<Planned, Broke>
     requires write { IsWrite catalog.now.tables write.now }
-    requires read { IfSome (S.content store.old) (λ c. IsReadFor catalog.now.tables write.now c old.now) }
+    requires read { IfSome (seen_content pending.now.changes (S.content store.old))
+        (λ c. IsReadFor catalog.now.tables write.now c old.now) }
     requires fits { FitsItsTable catalog.now.tables write.now old.now }
     requires new { IsNewFor catalog.now.tables write.now old.now new.now }
     requires share { Affords allowance.old (counter_reads (counters_in catalog.now) write.now)
         (counter_reads (counters_in catalog.now) write.now) }
-    ensures reads { Reads (world (S.content store.old) (S.faults store.old) allowance.old meter.old)
-        (world (S.content store.new) (S.faults store.new) allowance.new meter.new)
+    ensures same { S.content store.new ≡ S.content store.old }
+    ensures reads { Reads
+        (world (seen_content pending.now.changes (S.content store.old)) (S.faults store.old) allowance.old meter.old)
+        (world (seen_content pending.now.changes (S.content store.new)) (S.faults store.new) allowance.new meter.new)
         (counter_reads (counters_in catalog.now) write.now) (counter_reads (counters_in catalog.now) write.now) }
     ensures cause { IfErr result (Explains (where_told (ShowsCounted catalog.now))
-        (world (S.content store.old) (S.faults store.old) allowance.old meter.old)
-        (world (S.content store.new) (S.faults store.new) allowance.new meter.new)) }
-    ensures answered { IfErr result (IsAnswered S.answers) }
+        (world (seen_content pending.now.changes (S.content store.old)) (S.faults store.old) allowance.old meter.old)
+        (world (seen_content pending.now.changes (S.content store.new)) (S.faults store.new) allowance.new meter.new)) }
+    ensures answered { IfErr result (IsAnswered (seen_answers S.answers pending.now.changes)) }
     ensures undamaged { IfErr result (λ error. (rows : Rows) (others : List Pair)
-        → HoldsCounted (S.content store.old) catalog.now rows others → IsUndamaged error) }
+        → HoldsCounted (seen_content pending.now.changes (S.content store.old)) catalog.now rows others
+        → IsUndamaged error) }
     // At most as many changes as the counters add, each of a counter's key, whatever the store tells.
     ensures plan { IfOk result (IsCountedWithin (all_moves (counters_in catalog.now) write.now)) }
     ensures can { IfOk result (RefusesAsFull catalog.now) }
     ensures answer { IfOk result (λ planned. (rows made : Rows) (others : List Pair)
-        → HoldsCounted (S.content store.old) catalog.now rows others
+        → HoldsCounted (seen_content pending.now.changes (S.content store.old)) catalog.now rows others
         → effect catalog.now.tables rows write.now ≡ Ok made
         → Counts catalog.now rows others write.now made planned) }
 {
     catalog.known();
-    let mut calls = Calls {
+    let mut calls = PendingCalls {
+        pending,
         store,
         allowance,
         meter,

@@ -6,18 +6,73 @@ ghost use Rattle.pq_content.specs.Pairs.{Pair};
 ghost use Rattle.pq_content.specs.Tables.{Rows, AllOfKinds};
 ghost use Rattle.pq_store.specs.Breaks.{IsUndamaged, IsAnswered};
 ghost use Rattle.pq_calls.specs.World.{world, Affords, Reads, Explains, where_told};
+ghost use Rattle.pq_pending.specs.Pending.{seen_content, seen_answers};
 ghost use Rattle.pq_tallies.specs.Counters.{counter_key as key_of_group, most_count, tally, HoldsCounted};
 ghost use Rattle.pq_tallies.specs.Defined.{counter_numbered, group_types};
-ghost use Rattle.pq_counters.specs.Evidence.{IsCounted, IsNoCount};
+ghost use Rattle.pq_counters.specs.Evidence.{IsCounted, IsNoCount, IsNoCountAt};
 
-use crate::groups::group_count;
-use pq_base::Row;
-use pq_calls::Calls;
+use crate::groups::{GroupCount, group_count};
+use pq_base::{Bytes, Row};
+use pq_pending::{Pending, PendingCalls};
 use pq_schema::Catalog;
 use pq_store::{Allowance, Broke, Meter, Store};
 use pq_tallies::counter_key;
 use std::alloc::Global;
 use std::sync::ledger::Ledger;
+
+/// The number of rows of the group with this key, behind changes that are not made yet.
+fn group_behind<S: Store<L>, L: Ledger>(
+    alloc: Global,
+    at: Bytes,
+    pending: &Pending,
+    store: &mut S,
+    allowance: &mut Allowance,
+    meter: &mut Meter<L>,
+) -> Result<GroupCount, Broke>
+    requires share { Affords allowance.old 1 1 }
+    ensures reads { Reads
+        (world (seen_content pending.now.changes (S.content store.old)) (S.faults store.old) allowance.old meter.old)
+        (world (seen_content pending.now.changes (S.content store.new)) (S.faults store.new) allowance.new meter.new)
+        1 1 }
+    ensures cause { IfErr result (Explains (IsNoCountAt at)
+        (world (seen_content pending.now.changes (S.content store.old)) (S.faults store.old) allowance.old meter.old)
+        (world (seen_content pending.now.changes (S.content store.new)) (S.faults store.new) allowance.new meter.new)) }
+    ensures answered { IfErr result (IsAnswered (seen_answers S.answers pending.now.changes)) }
+    ensures few { IfOk result (λ group. group.count ≤ most_count) }
+    ensures counted { IfOk result (λ group. IfSome (seen_content pending.now.changes (S.content store.old))
+        (λ c. IsCounted (value_at c at) group.count)) }
+{
+    let mut calls = PendingCalls {
+        pending,
+        store,
+        allowance,
+        meter,
+    };
+    group_count(alloc, at, &mut calls)
+}
+
+/// The number of rows of the group with this key: one get.
+fn stored_group<S: Store<L>, L: Ledger>(
+    alloc: Global,
+    at: Bytes,
+    store: &mut S,
+    allowance: &mut Allowance,
+    meter: &mut Meter<L>,
+) -> Result<GroupCount, Broke>
+    requires share { Affords allowance.old 1 1 }
+    ensures reads { Reads (world (S.content store.old) (S.faults store.old) allowance.old meter.old)
+        (world (S.content store.new) (S.faults store.new) allowance.new meter.new) 1 1 }
+    ensures cause { IfErr result (Explains (IsNoCountAt at)
+        (world (S.content store.old) (S.faults store.old) allowance.old meter.old)
+        (world (S.content store.new) (S.faults store.new) allowance.new meter.new)) }
+    ensures answered { IfErr result (IsAnswered S.answers) }
+    ensures few { IfOk result (λ group. group.count ≤ most_count) }
+    ensures counted { IfOk result (λ group. IfSome (S.content store.old)
+        (λ c. IsCounted (value_at c at) group.count)) }
+{
+    let pending = Pending::none(alloc);
+    group_behind(alloc, at, &pending, store, allowance, meter)
+}
 
 /// How many rows of the counter's table have these values at its columns: one get.
 pub fn read_counter<S: Store<L>, L: Ledger>(
@@ -50,12 +105,7 @@ pub fn read_counter<S: Store<L>, L: Ledger>(
         → n ≡ tally rows (counter_numbered catalog.now number) values.now) }
 {
     catalog.known();
-    let mut calls = Calls {
-        store,
-        allowance,
-        meter,
-    };
     let at = counter_key(alloc, number, values)?;
-    let group = group_count(alloc, at, &mut calls)?;
+    let group = stored_group(alloc, at, store, allowance, meter)?;
     Ok(group.count)
 }

@@ -8,7 +8,8 @@ ghost use Rattle.pq_schema.specs.Valid.{IsValid};
 ghost use Rattle.pq_content.specs.Pairs.{Pair};
 ghost use Rattle.pq_content.specs.Tables.{Rows, AllOfKinds, IsTableNumber, key_types, types_of, shape_of};
 ghost use Rattle.pq_store.specs.Breaks.{IsUndamaged, IsAnswered};
-ghost use Rattle.pq_calls.specs.Calls.{Uses, Fails};
+ghost use Rattle.pq_pending.specs.Calls.{Uses, Fails, seen, answers_of};
+ghost use Rattle.pq_pending.specs.Pending.{seen_content, seen_answers};
 ghost use Rattle.pq_calls.specs.Evidence.{IsRead, IsNoRow};
 ghost use Rattle.pq_calls.specs.World.{world, Affords, Reads, Explains, where_told};
 ghost use Rattle.pq_index_keep.specs.Effects.{effect};
@@ -24,8 +25,9 @@ ghost use Rattle.pq_counters.specs.Steps.{row_in_place};
 use crate::bound::all_moves;
 use crate::plan::plan_by;
 use pq_base::{List, NoMem, Row};
-use pq_calls::{Calls, StoredRow};
+use pq_calls::StoredRow;
 use pq_index_keep::{Cond, Planned, SetCol, Write, held_refusal, with_sets};
+use pq_pending::{Pending, PendingCalls};
 use pq_schema::{Catalog, Table};
 use pq_store::{Allowance, Broke, Meter, Store};
 use std::alloc::Global;
@@ -37,7 +39,7 @@ fn stored_row<S: Store<L>, L: Ledger>(
     catalog: &Catalog,
     table: u8,
     key: &Row,
-    calls: &mut Calls<S, L>,
+    calls: &mut PendingCalls<S, L>,
 ) -> Result<Option<StoredRow>, Broke>
     requires number { IsTableNumber catalog.now.tables table }
     requires kinds { AllOfKinds (key_types (table_at catalog.now.tables table)) key.now }
@@ -45,8 +47,8 @@ fn stored_row<S: Store<L>, L: Ledger>(
     ensures uses { Uses S.content S.faults calls.old calls.new 1 1 }
     ensures cause { IfErr result (Fails (where_told (IsNoRow catalog.now.tables)) S.content S.faults calls.old
         calls.new) }
-    ensures answered { IfErr result (IsAnswered S.answers) }
-    ensures read { IfOk result (λ found. IfSome (S.content calls.old.store.now)
+    ensures answered { IfErr result (IsAnswered (answers_of S.answers calls.old)) }
+    ensures read { IfOk result (λ found. IfSome (seen S.content calls.old)
         (λ c. IsRead (shape_of (table_at catalog.now.tables table)) (value_at c (row_key table key.now))
         (option_map (λ stored. stored.row) found))) }
     ensures fits { IfOk result (λ found. IfSome found
@@ -89,15 +91,15 @@ fn read_rows<S: Store<L>, L: Ledger>(
     alloc: Global,
     catalog: &Catalog,
     write: &Write,
-    calls: &mut Calls<S, L>,
+    calls: &mut PendingCalls<S, L>,
 ) -> Result<ReadRows, Broke>
     requires write { IsWrite catalog.now.tables write.now }
     requires share { Affords calls.old.allowance.now (rereading write.now) (rereading write.now) }
     ensures uses { Uses S.content S.faults calls.old calls.new (rereading write.now) (rereading write.now) }
     ensures cause { IfErr result (Fails (where_told (IsNoRow catalog.now.tables)) S.content S.faults calls.old
         calls.new) }
-    ensures answered { IfErr result (IsAnswered S.answers) }
-    ensures read { IfOk result (λ rows. IfSome (S.content calls.old.store.now)
+    ensures answered { IfErr result (IsAnswered (answers_of S.answers calls.old)) }
+    ensures read { IfOk result (λ rows. IfSome (seen S.content calls.old)
         (λ c. IsReadFor catalog.now.tables write.now c rows.old)) }
     ensures fits { IfOk result (λ rows. FitsItsTable catalog.now.tables write.now rows.old) }
     ensures new { IfOk result (λ rows. IsNewFor catalog.now.tables write.now rows.old rows.new) }
@@ -145,7 +147,7 @@ fn plan_reading<S: Store<L>, L: Ledger>(
     alloc: Global,
     catalog: &Catalog,
     write: &Write,
-    calls: &mut Calls<S, L>,
+    calls: &mut PendingCalls<S, L>,
 ) -> Result<Planned, Broke>
     requires valid { IsValid catalog.now }
     requires write { IsWrite catalog.now.tables write.now }
@@ -155,11 +157,11 @@ fn plan_reading<S: Store<L>, L: Ledger>(
         (counter_reads (counters_in catalog.now) write.now) }
     ensures cause { IfErr result (Fails (where_told (ShowsCounted catalog.now)) S.content
         S.faults calls.old calls.new) }
-    ensures answered { IfErr result (IsAnswered S.answers) }
+    ensures answered { IfErr result (IsAnswered (answers_of S.answers calls.old)) }
     ensures plan { IfOk result (IsCountedWithin (all_moves (counters_in catalog.now) write.now)) }
     ensures can { IfOk result (RefusesAsFull catalog.now) }
     ensures answer { IfOk result (λ planned. (rows made : Rows) (others : List Pair)
-        → HoldsCounted (S.content calls.old.store.now) catalog.now rows others
+        → HoldsCounted (seen S.content calls.old) catalog.now rows others
         → effect catalog.now.tables rows write.now ≡ Ok made
         → Counts catalog.now rows others write.now made planned) }
 {
@@ -173,6 +175,47 @@ fn plan_reading<S: Store<L>, L: Ledger>(
             Ok(planned) => Ok(planned),
         },
     }
+}
+
+/// The changes of any write behind changes that are not made yet.
+fn plan_behind<S: Store<L>, L: Ledger>(
+    alloc: Global,
+    catalog: &Catalog,
+    write: &Write,
+    pending: &Pending,
+    store: &mut S,
+    allowance: &mut Allowance,
+    meter: &mut Meter<L>,
+) -> Result<Planned, Broke>
+    requires write { IsWrite catalog.now.tables write.now }
+    requires share { Affords allowance.old (counter_reads (counters_in catalog.now) write.now)
+        (counter_reads (counters_in catalog.now) write.now) }
+    ensures reads { Reads
+        (world (seen_content pending.now.changes (S.content store.old)) (S.faults store.old) allowance.old meter.old)
+        (world (seen_content pending.now.changes (S.content store.new)) (S.faults store.new) allowance.new meter.new)
+        (counter_reads (counters_in catalog.now) write.now) (counter_reads (counters_in catalog.now) write.now) }
+    ensures cause { IfErr result (Explains (where_told (ShowsCounted catalog.now))
+        (world (seen_content pending.now.changes (S.content store.old)) (S.faults store.old) allowance.old meter.old)
+        (world (seen_content pending.now.changes (S.content store.new)) (S.faults store.new) allowance.new meter.new)) }
+    ensures answered { IfErr result (IsAnswered (seen_answers S.answers pending.now.changes)) }
+    ensures undamaged { IfErr result (λ error. (rows : Rows) (others : List Pair)
+        → HoldsCounted (seen_content pending.now.changes (S.content store.old)) catalog.now rows others
+        → IsUndamaged error) }
+    ensures plan { IfOk result (IsCountedWithin (all_moves (counters_in catalog.now) write.now)) }
+    ensures can { IfOk result (RefusesAsFull catalog.now) }
+    ensures answer { IfOk result (λ planned. (rows made : Rows) (others : List Pair)
+        → HoldsCounted (seen_content pending.now.changes (S.content store.old)) catalog.now rows others
+        → effect catalog.now.tables rows write.now ≡ Ok made
+        → Counts catalog.now rows others write.now made planned) }
+{
+    catalog.known();
+    let mut calls = PendingCalls {
+        pending,
+        store,
+        allowance,
+        meter,
+    };
+    plan_reading(alloc, catalog, write, &mut calls)
 }
 
 /// The changes that keep the counters' pairs with a write, for which `plan_write` answered changes, or the refusal of
@@ -206,11 +249,6 @@ pub fn plan_counters<S: Store<L>, L: Ledger>(
         → effect catalog.now.tables rows write.now ≡ Ok made
         → Counts catalog.now rows others write.now made planned) }
 {
-    catalog.known();
-    let mut calls = Calls {
-        store,
-        allowance,
-        meter,
-    };
-    plan_reading(alloc, catalog, write, &mut calls)
+    let pending = Pending::none(alloc);
+    plan_behind(alloc, catalog, write, &pending, store, allowance, meter)
 }

@@ -8,7 +8,7 @@ ghost use Rattle.pq_content.specs.Pairs.{Pair, is_of_counters};
 ghost use Rattle.pq_content.specs.Standing.{change_of};
 ghost use Rattle.pq_content.specs.Tables.{Rows, IsTableNumber};
 ghost use Rattle.pq_store.specs.Breaks.{IsAnswered};
-ghost use Rattle.pq_calls.specs.Calls.{Uses, Fails};
+ghost use Rattle.pq_pending.specs.Calls.{Uses, Fails, seen, answers_of};
 ghost use Rattle.pq_calls.specs.World.{Affords};
 ghost use Rattle.pq_tallies.specs.Counters.{HoldsCounted};
 ghost use Rattle.pq_tallies.specs.Defined.{NumberedCounter, counters_in, counter_numbered, with_number};
@@ -19,8 +19,8 @@ ghost use Rattle.pq_counters.specs.Steps.{key_count, moves_of, moves_at, IsSmall
 
 use crate::groups::{joined, left};
 use pq_base::{Bytes, List, NoMem, Refusal, Row};
-use pq_calls::Calls;
 use pq_index_keep::Planned;
+use pq_pending::PendingCalls;
 use pq_row_code::Change;
 use pq_schema::{Catalog, Counter};
 use pq_store::{Broke, Store};
@@ -33,18 +33,18 @@ fn leave<S: Store<L>, L: Ledger>(
     alloc: Global,
     at: Option<Bytes>,
     changes: &mut List<Change>,
-    calls: &mut Calls<S, L>,
+    calls: &mut PendingCalls<S, L>,
 ) -> Result<(), Broke>
     requires small { IsSmallKey at }
     requires share { Affords calls.old.allowance.now (key_count at) (key_count at) }
     ensures uses { Uses S.content S.faults calls.old calls.new (key_count at) (key_count at) }
     ensures cause { IfErr result (Fails (SpoilsFromKey at) S.content S.faults calls.old calls.new) }
-    ensures answered { IfErr result (IsAnswered S.answers) }
+    ensures answered { IfErr result (IsAnswered (answers_of S.answers calls.old)) }
     ensures few { OnOk result (length changes.new ≡ length changes.old + key_count at) }
     ensures each { All IsCounterChange changes.old → IfSome at (λ key. is_of_counters key ≡ true)
         → OnOk result (All IsCounterChange changes.new) }
     ensures answer { (rows : Rows) (counter : NumberedCounter) (from : Option (List Value))
-        → at ≡ group_key counter.number from → TellsGroup (S.content calls.old.store.now) counter from rows
+        → at ≡ group_key counter.number from → TellsGroup (seen S.content calls.old) counter from rows
         → OnOk result (map change_of changes.new
         ≡ map change_of changes.old ++ left_changes rows counter from) }
 {
@@ -61,18 +61,18 @@ fn join<S: Store<L>, L: Ledger>(
     alloc: Global,
     at: Option<Bytes>,
     changes: &mut List<Change>,
-    calls: &mut Calls<S, L>,
+    calls: &mut PendingCalls<S, L>,
 ) -> Result<bool, Broke>
     requires small { IsSmallKey at }
     requires share { Affords calls.old.allowance.now (key_count at) (key_count at) }
     ensures uses { Uses S.content S.faults calls.old calls.new (key_count at) (key_count at) }
     ensures cause { IfErr result (Fails (SpoilsToKey at) S.content S.faults calls.old calls.new) }
-    ensures answered { IfErr result (IsAnswered S.answers) }
+    ensures answered { IfErr result (IsAnswered (answers_of S.answers calls.old)) }
     ensures few { IfOk result (λ room. length changes.new ≤ length changes.old + key_count at) }
     ensures each { All IsCounterChange changes.old → IfSome at (λ key. is_of_counters key ≡ true)
         → IfOk result (λ room. All IsCounterChange changes.new) }
     ensures answer { (rows : Rows) (counter : NumberedCounter) (to : Option (List Value))
-        → at ≡ group_key counter.number to → TellsGroup (S.content calls.old.store.now) counter to rows
+        → at ≡ group_key counter.number to → TellsGroup (seen S.content calls.old) counter to rows
         → IfOk result (JoinsGroup rows counter to (map change_of changes.old) (map change_of changes.new)) }
 {
     let Some(at) = at else {
@@ -94,7 +94,7 @@ fn plan_counter<S: Store<L>, L: Ledger>(
     number: u16,
     counter: &Counter,
     changes: &mut List<Change>,
-    calls: &mut Calls<S, L>,
+    calls: &mut PendingCalls<S, L>,
 ) -> Result<bool, Broke>
     requires small { IsSmallMove number
         (move_in table (option_copied old) (option_copied new) (with_number number counter.now)) }
@@ -107,11 +107,11 @@ fn plan_counter<S: Store<L>, L: Ledger>(
     ensures cause { IfErr result (Fails (SpoilsMove number
         (move_in table (option_copied old.entry) (option_copied new.entry) (with_number number counter.now)))
         S.content S.faults calls.old calls.new) }
-    ensures answered { IfErr result (IsAnswered S.answers) }
+    ensures answered { IfErr result (IsAnswered (answers_of S.answers calls.old)) }
     ensures few { IfOk result (λ room. length changes.new ≤ length changes.old
         + moves_of table (option_copied old.entry) (option_copied new.entry) (with_number number counter.now)) }
     ensures each { All IsCounterChange changes.old → IfOk result (λ room. All IsCounterChange changes.new) }
-    ensures answer { (rows : Rows) → TellsMove (S.content calls.old.store.now) (with_number number counter.now)
+    ensures answer { (rows : Rows) → TellsMove (seen S.content calls.old) (with_number number counter.now)
         (move_in table (option_copied old.entry) (option_copied new.entry) (with_number number counter.now)) rows
         → IfOk result (MovesRow rows (with_number number counter.now)
         (move_in table (option_copied old.entry) (option_copied new.entry) (with_number number counter.now))
@@ -140,7 +140,7 @@ fn plan_numbered<S: Store<L>, L: Ledger>(
     new: Option<&Row>,
     number: u16,
     changes: &mut List<Change>,
-    calls: &mut Calls<S, L>,
+    calls: &mut PendingCalls<S, L>,
 ) -> Result<Option<Refusal>, Broke>
     requires number { IsCounterNumber catalog.now number }
     requires small { MovesLittle catalog.now table (option_copied old) (option_copied new) number }
@@ -152,13 +152,13 @@ fn plan_numbered<S: Store<L>, L: Ledger>(
         (moves_at catalog.now table (option_copied old.entry) (option_copied new.entry) number) }
     ensures cause { IfErr result (Fails (SpoilsMove number (move_in table (option_copied old.entry)
         (option_copied new.entry) (counter_numbered catalog.now number))) S.content S.faults calls.old calls.new) }
-    ensures answered { IfErr result (IsAnswered S.answers) }
+    ensures answered { IfErr result (IsAnswered (answers_of S.answers calls.old)) }
     ensures few { IfOk result (λ full. length changes.new ≤ length changes.old
         + moves_at catalog.now table (option_copied old.entry) (option_copied new.entry) number) }
     ensures each { All IsCounterChange changes.old → IfOk result (λ full. All IsCounterChange changes.new) }
     ensures full { IfOk result (λ full. IfSome full
         (λ why. why ≡ counter_full (counter_numbered catalog.now number))) }
-    ensures answer { (rows : Rows) → TellsMove (S.content calls.old.store.now) (counter_numbered catalog.now number)
+    ensures answer { (rows : Rows) → TellsMove (seen S.content calls.old) (counter_numbered catalog.now number)
         (move_in table (option_copied old.entry) (option_copied new.entry) (counter_numbered catalog.now number)) rows
         → IfOk result (MovesCounter rows (counter_numbered catalog.now number)
         (move_in table (option_copied old.entry) (option_copied new.entry) (counter_numbered catalog.now number))
@@ -181,7 +181,7 @@ fn plan_each<S: Store<L>, L: Ledger>(
     old: Option<&Row>,
     new: Option<&Row>,
     numbers: &[u16],
-    calls: &mut Calls<S, L>,
+    calls: &mut PendingCalls<S, L>,
 ) -> Result<Planned, Broke>
     requires numbers { All (IsCounterNumber catalog.now) numbers.now }
     requires small { All (MovesLittle catalog.now table (option_copied old) (option_copied new)) numbers.now }
@@ -193,12 +193,12 @@ fn plan_each<S: Store<L>, L: Ledger>(
         (sum_by (moves_at catalog.now table (option_copied old.entry) (option_copied new.entry)) numbers.now) }
     ensures cause { IfErr result (Fails (SpoilsMoves catalog.now table (option_copied old.entry)
         (option_copied new.entry)) S.content S.faults calls.old calls.new) }
-    ensures answered { IfErr result (IsAnswered S.answers) }
+    ensures answered { IfErr result (IsAnswered (answers_of S.answers calls.old)) }
     ensures plan { IfOk result (IsCountedWithin
         (sum_by (moves_at catalog.now table (option_copied old.entry) (option_copied new.entry)) numbers.now)) }
     ensures can { IfOk result (RefusesAsFull catalog.now) }
     ensures answer { IfOk result (λ planned. (rows : Rows) (others : List Pair)
-        → HoldsCounted (S.content calls.old.store.now) catalog.now rows others
+        → HoldsCounted (seen S.content calls.old) catalog.now rows others
         → AreOfTable catalog.now.tables table (option_copied old.entry) (option_copied new.entry)
         → PlansMoves (map (counter_numbered catalog.now) numbers.now) rows table (option_copied old.entry)
         (option_copied new.entry) planned) }
@@ -230,7 +230,7 @@ pub(crate) fn plan_moves<S: Store<L>, L: Ledger>(
     table: u8,
     old: Option<&Row>,
     new: Option<&Row>,
-    calls: &mut Calls<S, L>,
+    calls: &mut PendingCalls<S, L>,
 ) -> Result<Planned, Broke>
     requires number { IsTableNumber catalog.now.tables table }
     requires rows { AreOfTable catalog.now.tables table (option_copied old) (option_copied new) }
@@ -242,12 +242,12 @@ pub(crate) fn plan_moves<S: Store<L>, L: Ledger>(
         (sum_by (moves_of table (option_copied old.entry) (option_copied new.entry)) (counters_in catalog.now)) }
     ensures cause { IfErr result (Fails (SpoilsMoves catalog.now table (option_copied old.entry)
         (option_copied new.entry)) S.content S.faults calls.old calls.new) }
-    ensures answered { IfErr result (IsAnswered S.answers) }
+    ensures answered { IfErr result (IsAnswered (answers_of S.answers calls.old)) }
     ensures plan { IfOk result (IsCountedWithin
         (sum_by (moves_of table (option_copied old.entry) (option_copied new.entry)) (counters_in catalog.now))) }
     ensures can { IfOk result (RefusesAsFull catalog.now) }
     ensures answer { IfOk result (λ planned. (rows : Rows) (others : List Pair)
-        → HoldsCounted (S.content calls.old.store.now) catalog.now rows others
+        → HoldsCounted (seen S.content calls.old) catalog.now rows others
         → AreOfTable catalog.now.tables table (option_copied old.entry) (option_copied new.entry)
         → PlansMoves (counters_in catalog.now) rows table (option_copied old.entry) (option_copied new.entry)
         planned) }

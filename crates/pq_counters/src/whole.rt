@@ -1,23 +1,26 @@
 //! The whole plan of a write: what it changes of rows and entries, and behind that what it changes of counters' pairs.
-ghost use Rattle.std.specs.Prelude.{◌≡◌, ◌++◌, List, Ok, IfOk, IfErr, IfSome};
+ghost use Rattle.std.specs.Prelude.{◌≡◌, ◌≤◌, ◌++◌, All, List, map, Ok, IfOk, IfErr, IfSome};
 ghost use Rattle.pq_content.specs.Pairs.{Pair};
+ghost use Rattle.pq_content.specs.Standing.{change_of};
 ghost use Rattle.pq_content.specs.Tables.{Rows};
 ghost use Rattle.pq_store.specs.Breaks.{IsUndamaged, IsAnswered};
 ghost use Rattle.pq_calls.specs.World.{world, Affords, Reads, Explains, where_told};
-ghost use Rattle.pq_index_keep.specs.Bounds.{most_changes};
+ghost use Rattle.pq_index_keep.specs.Bounds.{most_changes, removers_of};
 ghost use Rattle.pq_index_keep.specs.Effects.{effect};
-ghost use Rattle.pq_index_keep.specs.Promises.{ArePlanned, MakesRows, IsReadFor, FitsItsTable, IsNewFor};
+ghost use Rattle.pq_pending.specs.Pending.{seen_content, seen_answers, RemovesAtMost};
+ghost use Rattle.pq_index_keep.specs.Promises.{ArePlanned, MakesRows, IsReadFor, FitsItsTable, IsNewFor, IsShortChange, IsShortWithin, RemovesFew};
 ghost use Rattle.pq_index_keep.specs.Sound.{IsWrite};
 ghost use Rattle.pq_tallies.specs.Counters.{counter_pairs, HoldsCounted};
 ghost use Rattle.pq_tallies.specs.Defined.{counters_in};
-ghost use Rattle.pq_counters.specs.Bounds.{counter_reads, whole_bound, whole_ops};
+ghost use Rattle.pq_counters.specs.Bounds.{counter_reads};
 ghost use Rattle.pq_counters.specs.Evidence.{ShowsCounted};
 ghost use Rattle.pq_counters.specs.Promises.{RefusesAsFull};
-ghost use Rattle.pq_counters.specs.Whole.{whole_reads, whole_changes, IsWholeWithin, RefusesWhole, PlansWhole};
+ghost use Rattle.pq_counters.specs.Whole.{reads_behind, whole_changes, IsWholeWithin, RefusesWhole, PlansWhole};
 
 use crate::plan::plan_by_rows;
 use pq_base::{List, NoMem, Row};
 use pq_index_keep::{Planned, PlannedWrite, Write, plan_with_rows};
+use pq_pending::Pending;
 use pq_row_code::Change;
 use pq_schema::Catalog;
 use pq_store::{Allowance, Broke, Meter, Store};
@@ -42,36 +45,47 @@ fn plan_more<S: Store<L>, L: Ledger>(
     old: &Option<Row>,
     new: &Option<Row>,
     changes: List<Change>,
+    pending: &Pending,
     store: &mut S,
     allowance: &mut Allowance,
     meter: &mut Meter<L>,
 ) -> Result<Planned, Broke>
     requires write { IsWrite catalog.now.tables write.now }
     requires planned { ArePlanned (most_changes catalog.now.tables write.now) changes }
-    requires read { IfSome (S.content store.old) (λ c. IsReadFor catalog.now.tables write.now c old.now) }
+    requires short { All IsShortChange (map change_of changes) }
+    requires thin { RemovesAtMost (removers_of write.now) (map change_of changes) }
+    requires read { IfSome (seen_content pending.now.changes (S.content store.old))
+        (λ c. IsReadFor catalog.now.tables write.now c old.now) }
     requires fits { FitsItsTable catalog.now.tables write.now old.now }
     requires new { IsNewFor catalog.now.tables write.now old.now new.now }
     requires share { Affords allowance.old (counter_reads (counters_in catalog.now) write.now)
         (counter_reads (counters_in catalog.now) write.now) }
-    ensures reads { Reads (world (S.content store.old) (S.faults store.old) allowance.old meter.old)
-        (world (S.content store.new) (S.faults store.new) allowance.new meter.new)
+    ensures same { S.content store.new ≡ S.content store.old }
+    ensures reads { Reads
+        (world (seen_content pending.now.changes (S.content store.old)) (S.faults store.old) allowance.old meter.old)
+        (world (seen_content pending.now.changes (S.content store.new)) (S.faults store.new) allowance.new meter.new)
         (counter_reads (counters_in catalog.now) write.now) (counter_reads (counters_in catalog.now) write.now) }
     ensures cause { IfErr result (Explains (where_told (ShowsCounted catalog.now))
-        (world (S.content store.old) (S.faults store.old) allowance.old meter.old)
-        (world (S.content store.new) (S.faults store.new) allowance.new meter.new)) }
-    ensures answered { IfErr result (IsAnswered S.answers) }
+        (world (seen_content pending.now.changes (S.content store.old)) (S.faults store.old) allowance.old meter.old)
+        (world (seen_content pending.now.changes (S.content store.new)) (S.faults store.new) allowance.new meter.new)) }
+    ensures answered { IfErr result (IsAnswered (seen_answers S.answers pending.now.changes)) }
     ensures undamaged { IfErr result (λ error. (rows : Rows) (others : List Pair)
-        → HoldsCounted (S.content store.old) catalog.now rows others → IsUndamaged error) }
+        → HoldsCounted (seen_content pending.now.changes (S.content store.old)) catalog.now rows others
+        → IsUndamaged error) }
     ensures plan { IfOk result (IsWholeWithin (whole_changes catalog.now write.now)) }
     ensures can { IfOk result (RefusesAsFull catalog.now) }
+    ensures short { IfOk result IsShortWithin }
+    ensures thin { IfOk result (RemovesFew write.now) }
     ensures answer { IfOk result (λ planned. (rows made : Rows) (others : List Pair)
-        → HoldsCounted (S.content store.old) catalog.now rows others
+        → HoldsCounted (seen_content pending.now.changes (S.content store.old)) catalog.now rows others
         → effect catalog.now.tables rows write.now ≡ Ok made
         → MakesRows catalog.now.tables rows (counter_pairs (counters_in catalog.now) rows ++ others) write.now changes
         made → PlansWhole catalog.now rows others write.now planned) }
 {
     catalog.known();
-    match plan_by_rows(alloc, catalog, write, old, new, store, allowance, meter) {
+    match plan_by_rows(
+        alloc, catalog, write, old, new, pending, store, allowance, meter,
+    ) {
         Err(error) => Err(error),
         Ok(Planned::Refused(why)) => Ok(Planned::Refused(why)),
         Ok(Planned::Changes(more)) => match both(changes, more) {
@@ -81,45 +95,52 @@ fn plan_more<S: Store<L>, L: Ledger>(
     }
 }
 
-/// The changes of a write and of its counters, or its first refusal. It changes nothing in the store, and leaves enough
-/// of the allowance for the changes.
+/// The changes of a write and of its counters behind changes that are not made yet, or its first refusal. It changes
+/// nothing in the store.
 pub fn plan_whole<S: Store<L>, L: Ledger>(
     alloc: Global,
     catalog: &Catalog,
     write: &Write,
+    pending: &Pending,
     store: &mut S,
     allowance: &mut Allowance,
     meter: &mut Meter<L>,
 ) -> Result<Planned, Broke>
     requires write { IsWrite catalog.now.tables write.now }
-    requires share { Affords allowance.old (whole_bound catalog.now write.now).ops
-        (whole_bound catalog.now write.now).entries }
-    ensures reads { Reads (world (S.content store.old) (S.faults store.old) allowance.old meter.old)
-        (world (S.content store.new) (S.faults store.new) allowance.new meter.new)
-        (whole_reads catalog.now write.now).ops (whole_reads catalog.now write.now).entries }
-    ensures left { Affords allowance.new (whole_ops catalog.now write.now) 0 }
+    requires few { pending.now.removers ≤ 256 }
+    requires share { Affords allowance.old (reads_behind pending.now.removers catalog.now write.now).ops
+        (reads_behind pending.now.removers catalog.now write.now).entries }
+    ensures same { S.content store.new ≡ S.content store.old }
+    ensures reads { Reads
+        (world (seen_content pending.now.changes (S.content store.old)) (S.faults store.old) allowance.old meter.old)
+        (world (seen_content pending.now.changes (S.content store.new)) (S.faults store.new) allowance.new meter.new)
+        (reads_behind pending.now.removers catalog.now write.now).ops
+        (reads_behind pending.now.removers catalog.now write.now).entries }
     ensures cause { IfErr result (Explains (where_told (ShowsCounted catalog.now))
-        (world (S.content store.old) (S.faults store.old) allowance.old meter.old)
-        (world (S.content store.new) (S.faults store.new) allowance.new meter.new)) }
-    ensures answered { IfErr result (IsAnswered S.answers) }
+        (world (seen_content pending.now.changes (S.content store.old)) (S.faults store.old) allowance.old meter.old)
+        (world (seen_content pending.now.changes (S.content store.new)) (S.faults store.new) allowance.new meter.new)) }
+    ensures answered { IfErr result (IsAnswered (seen_answers S.answers pending.now.changes)) }
     ensures undamaged { IfErr result (λ error. (rows : Rows) (others : List Pair)
-        → HoldsCounted (S.content store.old) catalog.now rows others → IsUndamaged error) }
-    // Over every store, told or not: the changes are some that an intent can hold, and a refusal is one that the write
-    // can have.
+        → HoldsCounted (seen_content pending.now.changes (S.content store.old)) catalog.now rows others
+        → IsUndamaged error) }
+    // Over every store, told or not: the changes are some that an intent can hold, short, and at most one removal of a
+    // sequence where the write removes pairs; and a refusal is one that the write can have.
     ensures plan { IfOk result (IsWholeWithin (whole_changes catalog.now write.now)) }
     ensures can { IfOk result (RefusesWhole catalog.now write.now) }
+    ensures short { IfOk result IsShortWithin }
+    ensures thin { IfOk result (RemovesFew write.now) }
     ensures answer { IfOk result (λ planned. (rows : Rows) (others : List Pair)
-        → HoldsCounted (S.content store.old) catalog.now rows others
+        → HoldsCounted (seen_content pending.now.changes (S.content store.old)) catalog.now rows others
         → PlansWhole catalog.now rows others write.now planned) }
 {
     catalog.known();
-    match plan_with_rows(alloc, catalog, write, store, allowance, meter) {
+    match plan_with_rows(alloc, catalog, write, pending, store, allowance, meter) {
         Err(error) => Err(error),
         Ok(PlannedWrite { planned, old, new }) => match planned {
             Planned::Refused(why) => Ok(Planned::Refused(why)),
             Planned::Changes(changes) => {
                 match plan_more(
-                    alloc, catalog, write, &old, &new, changes, store, allowance, meter,
+                    alloc, catalog, write, &old, &new, changes, pending, store, allowance, meter,
                 ) {
                     Err(error) => Err(error),
                     Ok(planned) => Ok(planned),

@@ -52,7 +52,7 @@ all_short (c ∷ cs) [] sized fits = absurd fits
 all_short (c ∷ cs) (x ∷ xs) sized fits = (one_short c.ty x sized.0 fits.0, all_short cs xs sized.1 fits.1)
 
 module _ (tables : List Table) (table : Table) (w : IsWritable tables table) (row : List Value) (fits : AllFit (types_of table) row) where
-  shorts : AllByRecursion IsShort row
+  pub shorts : AllByRecursion IsShort row
   shorts = all_short table.columns row (each_by (λ (column : Column). IsSized column.ty) table.columns w.made.sized) fits
 
   pub fit_texts : All IsShort row
@@ -101,13 +101,13 @@ type_sized [] col sized = tt
 type_sized (c ∷ cs) zero sized = sized.0
 type_sized (c ∷ cs) (suc col) sized = type_sized cs col sized.1
 
-within_short : (x : Value) → IsShort x → IsWithinLength 1000 x
+pub within_short : (x : Value) → IsShort x → IsWithinLength 1000 x
 within_short value.Null h = tt
 within_short (value.Int n) h = tt
 within_short (value.Bool b) h = tt
 within_short (value.Text t) h = h
 
-key_within : (table : Table) (cols : List ℕ) (key : List Value) → AllByRecursion (λ (column : Column). IsSized column.ty) table.columns → AllFit (types_at table.columns cols) key → AllByRecursion (IsWithinLength 1000) key
+pub key_within : (table : Table) (cols : List ℕ) (key : List Value) → AllByRecursion (λ (column : Column). IsSized column.ty) table.columns → AllFit (types_at table.columns cols) key → AllByRecursion (IsWithinLength 1000) key
 key_within table [] [] sized fits = tt
 key_within table [] (x ∷ xs) sized fits = absurd fits
 key_within table (c ∷ cols) [] sized fits = absurd fits
@@ -140,7 +140,7 @@ fewer left (c ∷ key) =
     elim (has_col left c) as (λ b. length (cond (not b) (c ∷ without left key) (without left key)) ≤ suc (length key)) [ true ↦ omega arith | false ↦ omega arith ]
 
 module _ (tables : List Table) (table : Table) (w : IsWritable tables table) (t : ℕ) where
-  narrow_sequence : (index : Index) → length index.cols ≤ 36 → length (index_sequence table index) ≤ 40
+  pub narrow_sequence : (index : Index) → length index.cols ≤ 36 → length (index_sequence table index) ≤ 40
   narrow_sequence index narrow =
       let left = set_of (columns_of index.cols) in
       let parts = length-append index.cols (map ascending_part (without left table.key)) in

@@ -27,7 +27,7 @@ n_of : (b : Bool) (n : ℕ) → n ≤ 10000 → (if b then n else 0) ≤ 10000
 n_of true n most = most
 n_of false n most = omega arith
 
-tests_few : (tables : List Table) (table : Table) (of : Scope) → IsWritable tables table → ((tests of table).ops ≤ 9) × ((tests of table).entries ≤ 40005)
+pub tests_few : (tables : List Table) (table : Table) (of : Scope) → IsWritable tables table → ((tests of table).ops ≤ 9) × ((tests of table).entries ≤ 40005)
 tests_few tables table of sound =
     let parents = count_by-le-length (λ (f : Foreign). touches of f.cols) table.foreign in
     let limits = count_by-le-length (λ (limit : Limit). touches of limit.cols) table.limits in
@@ -36,7 +36,7 @@ tests_few tables table of sound =
     let few_limits = sound.made.few_limits in
     (omega (arith, parents, limits, few_foreign, few_limits), omega (arith, parents, rows, few_foreign, few_limits))
 
-referring_few : (tables : List Table) (t : ℕ) → AreWritable tables → length tables ≤ 64 → referring_count tables t ≤ 256
+pub referring_few : (tables : List Table) (t : ℕ) → AreWritable tables → length tables ≤ 64 → referring_count tables t ≤ 256
 referring_few tables t sound few =
     let each = All-weaker (IsWritable tables) (λ table. refers t table ≤ 4)
     (λ table w. let most = count_by-le-length (λ (f : Foreign). f.table == t) table.foreign in let short = w.made.few_foreign in omega (arith, most, short)) tables sound in

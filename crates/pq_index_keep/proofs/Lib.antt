@@ -1,3 +1,4 @@
+pub mod Behind
 pub mod Changing
 pub mod Coding
 pub mod Counted
@@ -7,7 +8,10 @@ pub mod Few
 pub mod Fitting
 pub mod Inserting
 pub mod Narrow
+pub mod Ranged
 pub mod Refusing
+pub mod Removing
+pub mod Shortened
 pub mod Steps
 pub mod Tests
 pub mod Touching

@@ -1,18 +1,21 @@
 -- What holds in the next turn of a loop, and over a later call.
-use Rattle.std.proofs.Common.{◌≡◌, ◌<◌, ◌+◌, ◌==◌, ℕ, zero, suc, Bool, true, List, [], ◌∷◌, length, take, get_or, Option, Some, None, sym, subst, ◌∙◌, arith}
+use Rattle.std.proofs.Common.{◌≡◌, ◌<◌, ◌≤◌, ◌+◌, ◌==◌, ℕ, zero, suc, Bool, true, List, [], ◌∷◌, length, take, get_or, Option, Some, None, sym, subst, ◌∙◌, arith}
 use Rattle.std.specs.Prelude.{All}
-use Rattle.std.specs.List.{count_by, position}
+use Rattle.std.specs.List.{count_by, sum_by, position}
 use Rattle.std.proofs.lemmas.Grind.{common_steps}
 use Rattle.pq_schema.specs.declared.table.Foreign.{Foreign}
 use Rattle.pq_schema.specs.declared.table.Table.{Table}
-use Rattle.pq_content.specs.Pairs.{Pair}
+use Rattle.pq_content.specs.Pairs.{Pair, Change}
 use Rattle.pq_content.specs.Tables.{Rows}
-use Rattle.pq_calls.specs.Calls.{Uses}
 use Rattle.pq_calls.specs.World.{World, Affords, Reads}
-use Rattle.pq_calls.specs.declared.calls.Calls.{Calls}
-use Rattle.pq_calls.proofs.Steps.{share_next, uses_next, uses_stop}
+use Rattle.pq_pending.specs.Calls.{Uses, answers_of}
+use Rattle.pq_pending.specs.Pending.{seen_answers}
+use Rattle.pq_pending.specs.declared.calls.PendingCalls.{PendingCalls}
+use Rattle.pq_pending.proofs.Steps.{share_next, uses_next, uses_stop}
+use Rattle.pq_store.specs.Breaks.{IsAnswered}
 use Rattle.pq_store.specs.Content.{Content}
-use Rattle.pq_index_keep.specs.Bounds.{refers, referring_count}
+use Rattle.pq_store.specs.declared.damage.Broke.{Broke}
+use Rattle.pq_index_keep.specs.Bounds.{refers, referring_count, names_behind, refers_behind, referring_behind}
 use Rattle.pq_index_keep.specs.Promises.{HoldsRows}
 
 pub settled_later : (a b : World) (o e : ℕ) (tables : List Table) (rows : Rows) (others : List Pair) → Reads a b o e → HoldsRows a.told tables rows others → HoldsRows b.told tables rows others
@@ -27,20 +30,65 @@ position_here p [] i x less at none passes = absurd (omega arith)
 position_here p (y ∷ xs) zero x less at none passes = grind (arith, common_steps, at, passes)
 position_here p (y ∷ xs) (suc i) x less at none passes = grind (arith, common_steps, none, position_here p xs i x (omega arith) at, passes)
 
+-- ---- what is pending stays
+
+module _ {S L : Type 0} (content : S → Option Content) (faults : S → ℕ) (a b : PendingCalls S L) (ops entries : ℕ) (r : Uses content faults a b ops entries) where
+  pub same_removers : b.pending.now.removers ≡ a.pending.now.removers
+  same_removers = λ i. (r.same_pending i).now.removers
+
+  same_changes : b.pending.now.changes ≡ a.pending.now.changes
+  same_changes = λ i. (r.same_pending i).now.changes
+
+  pub few_later : (most : ℕ) → a.pending.now.removers ≤ most → b.pending.now.removers ≤ most
+  few_later most few = subst (λ (n : ℕ). n ≤ most) (sym same_removers) few
+
+  -- what is answered behind a call is answered before it
+  pub answered_before : (answers : List ℕ → Option (List ℕ) → Type 0) (error : Broke) → IsAnswered (answers_of answers b) error → IsAnswered (answers_of answers a) error
+  answered_before answers error = subst (λ (changes : List Change). IsAnswered (seen_answers answers changes) error) same_changes
+
+-- ---- a loop in which what an item's share is goes by what is pending
+
+module _ {S L : Type 0} (content : S → Option Content) (faults : S → ℕ) {X : Type 0} (f : X → ℕ) (g : ℕ → X → ℕ) (xs : List X) (i : ℕ) (x : X) (within : i < length xs) (at : x ≡ get_or xs i x) where
+  abbrev behind : PendingCalls S L → X → ℕ
+  behind calls = g calls.pending.now.removers
+
+  own_use : (a b c : PendingCalls S L) (o e : ℕ) → Uses content faults a b o e → Uses content faults b c (f x) (behind b x) → Uses content faults b c (f x) (behind a x)
+  own_use a b c o e r = subst (λ (n : ℕ). Uses content faults b c (f x) (g n x)) (same_removers content faults a b o e r)
+
+  pub behind_share : (a b : PendingCalls S L) → Uses content faults a b (sum_by f (take i xs)) (sum_by (behind a) (take i xs)) → Affords a.allowance.now (sum_by f xs) (sum_by (behind a) xs) → Affords b.allowance.now (f x) (behind b x)
+  behind_share a b r left =
+      subst (λ (n : ℕ). Affords b.allowance.now (f x) (g n x)) (sym (same_removers content faults a b _ _ r)) (share_next content faults f (behind a) xs i x within at a b r left)
+
+  pub behind_next : (a b c : PendingCalls S L) → Uses content faults a b (sum_by f (take i xs)) (sum_by (behind a) (take i xs)) → Uses content faults b c (f x) (behind b x) → Uses content faults a c (sum_by f (take (i + 1) xs)) (sum_by (behind a) (take (i + 1) xs))
+  behind_next a b c r s = uses_next content faults f (behind a) xs i x within at a b c r (own_use a b c _ _ r s)
+
+  pub behind_stop : (a b c : PendingCalls S L) → Uses content faults a b (sum_by f (take i xs)) (sum_by (behind a) (take i xs)) → Uses content faults b c (f x) (behind b x) → Uses content faults a c (sum_by f xs) (sum_by (behind a) xs)
+  behind_stop a b c r s = uses_stop content faults f (behind a) xs i x within at a b c r (own_use a b c _ _ r s)
+
 -- ---- a loop over tables, each with its foreign keys that refer to one of them
 
 abbrev referring : ℕ → List Foreign → ℕ
 referring t foreign = count_by (λ f. f.table == t) foreign
 
+abbrev naming : ℕ → ℕ → List Foreign → ℕ
+naming removers t foreign = sum_by (names_behind removers t) foreign
+
 module _ {S L : Type 0} (content : S → Option Content) (faults : S → ℕ) (t : ℕ) (tables : List Table) (i : ℕ) (child : Table) (own : List Foreign) (within : i < length tables) (at : child ≡ get_or tables i child) (is : own ≡ child.foreign) where
-  pub referring_share : (a b : Calls S L) → Uses content faults a b (referring_count (take i tables) t) (referring_count (take i tables) t) → Affords a.allowance.now (referring_count tables t) (referring_count tables t) → Affords b.allowance.now (referring t own) (referring t own)
+  abbrev removers : PendingCalls S L → ℕ
+  removers calls = calls.pending.now.removers
+
+  abbrev UsesSome : PendingCalls S L → PendingCalls S L → List Table → Type 0
+  UsesSome a b some = Uses content faults a b (referring_count some t) (referring_behind (removers a) some t)
+
+  abbrev UsesOwn : PendingCalls S L → PendingCalls S L → List Foreign → Type 0
+  UsesOwn a b foreign = Uses content faults a b (referring t foreign) (naming (removers a) t foreign)
+
+  pub referring_share : (a b : PendingCalls S L) → UsesSome a b (take i tables) → Affords a.allowance.now (referring_count tables t) (referring_behind (removers a) tables t) → Affords b.allowance.now (referring t own) (naming (removers b) t own)
   referring_share a b r left =
-      subst (λ (fs : List Foreign). Affords b.allowance.now (referring t fs) (referring t fs)) (sym is) (share_next content faults (refers t) (refers t) tables i child within at a b r left)
+      subst (λ (fs : List Foreign). Affords b.allowance.now (referring t fs) (naming (removers b) t fs)) (sym is) (behind_share content faults (refers t) (λ n. refers_behind n t) tables i child within at a b r left)
 
-  pub referring_next : (a b c : Calls S L) → Uses content faults a b (referring_count (take i tables) t) (referring_count (take i tables) t) → Uses content faults b c (referring t own) (referring t own) → Uses content faults a c (referring_count (take (i + 1) tables) t) (referring_count (take (i + 1) tables) t)
-  referring_next a b c r s =
-      uses_next content faults (refers t) (refers t) tables i child within at a b c r (subst (λ (fs : List Foreign). Uses content faults b c (referring t fs) (referring t fs)) is s)
+  pub referring_next : (a b c : PendingCalls S L) → UsesSome a b (take i tables) → UsesOwn b c own → UsesSome a c (take (i + 1) tables)
+  referring_next a b c r s = behind_next content faults (refers t) (λ n. refers_behind n t) tables i child within at a b c r (subst (UsesOwn b c) is s)
 
-  pub referring_stop : (a b c : Calls S L) → Uses content faults a b (referring_count (take i tables) t) (referring_count (take i tables) t) → Uses content faults b c (referring t own) (referring t own) → Uses content faults a c (referring_count tables t) (referring_count tables t)
-  referring_stop a b c r s =
-      uses_stop content faults (refers t) (refers t) tables i child within at a b c r (subst (λ (fs : List Foreign). Uses content faults b c (referring t fs) (referring t fs)) is s)
+  pub referring_stop : (a b c : PendingCalls S L) → UsesSome a b (take i tables) → UsesOwn b c own → UsesSome a c tables
+  referring_stop a b c r s = behind_stop content faults (refers t) (λ n. refers_behind n t) tables i child within at a b c r (subst (UsesOwn b c) is s)

@@ -61,3 +61,45 @@ write_bound tables write = record {
   ops = (write_tests tables write).ops + write_ops (most_changes tables write);
   entries = (write_tests tables write).entries;
 }
+
+-- ---- behind other writes of a batch
+
+-- the limits, and the foreign keys that refer to a row's table, whose rows a write may count
+abbrev pub counted : List Table → Write → ℕ
+counted tables (write.Insert t row) = tested_limits scope.All (table_at tables t).limits
+counted tables (write.Update t key sets conds) = tested_limits (scope_of sets) (table_at tables t).limits
+counted tables (write.Delete t key conds) = referring_count tables t
+
+-- what may be read of the rows of a limit that is tested, behind so many writes that remove pairs
+abbrev pub tested_n_behind : ℕ → Scope → Limit → ℕ
+tested_n_behind removers of limit = if touches of limit.cols then limit.n + removers else 0
+
+-- the same with the tests of foreign keys
+abbrev pub tested_behind : ℕ → Scope → Table → Bound
+tested_behind removers of table = record {
+  ops = (tests of table).ops;
+  entries = 1 + tested_foreign of table.foreign + sum_by (tested_n_behind removers of) table.limits;
+}
+
+-- what may be read of the rows that name a row of a table
+abbrev pub names_behind : ℕ → ℕ → Foreign → ℕ
+names_behind removers t foreign = if foreign.table == t then 1 + removers else 0
+
+abbrev pub refers_behind : ℕ → ℕ → Table → ℕ
+refers_behind removers t table = sum_by (names_behind removers t) table.foreign
+
+abbrev pub referring_behind : ℕ → List Table → ℕ → ℕ
+referring_behind removers tables t = sum_by (refers_behind removers t) tables
+
+-- behind so many writes that remove pairs each count may read as many more
+abbrev pub tests_behind : ℕ → List Table → Write → Bound
+tests_behind removers tables write = record {
+  ops = (write_tests tables write).ops;
+  entries = (write_tests tables write).entries + counted tables write * removers;
+}
+
+-- whether the write removes pairs: 1 where it does
+abbrev pub removers_of : Write → ℕ
+removers_of (write.Insert t row) = 0
+removers_of (write.Update t key sets conds) = 1
+removers_of (write.Delete t key conds) = 1

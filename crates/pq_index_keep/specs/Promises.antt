@@ -14,6 +14,8 @@ use Rattle.pq_content.specs.Standing.{change_of, AreOfRows}
 use Rattle.pq_content.specs.Tables.{Rows, AllOfKinds, types_of, shape_of, key_types, cells, Keeps}
 use Rattle.pq_store.specs.Content.{Content}
 use Rattle.pq_calls.specs.Evidence.{IsRead}
+use Rattle.pq_pending.specs.Pending.{RemovesAtMost}
+use Rattle.pq_index_keep.specs.Bounds.{removers_of}
 use Rattle.pq_index_keep.specs.Effects.{effect, changes_of, held_refusal}
 use Rattle.pq_index_keep.specs.Tested.{with_sets}
 use Rattle.pq_index_keep.specs.declared.plan.Planned.{Planned}
@@ -52,6 +54,21 @@ Plans tables rows others write (planned.Refused refusal) = effect tables rows wr
 abbrev pub IsPlannedWithin : ℕ → Planned → Type 0
 IsPlannedWithin most (planned.Changes changes) = ArePlanned most changes
 IsPlannedWithin most (planned.Refused refusal) = Unit {0}
+
+-- key and value of a change are short
+pub record IsShortChange (change : List ℕ × Option (List ℕ)) : Type 0 where
+  pub key : length change.0 ≤ 81000
+  pub value : IfSome change.1 (λ value. length value ≤ 4096)
+
+-- so is each change, whatever the store tells
+abbrev pub IsShortWithin : Planned → Type 0
+IsShortWithin (planned.Changes changes) = All IsShortChange (map change_of changes)
+IsShortWithin (planned.Refused refusal) = Unit {0}
+
+-- an UPDATE or a DELETE removes at most one pair of each sequence, and an INSERT none, whatever the store tells
+abbrev pub RemovesFew : Write → Planned → Type 0
+RemovesFew write (planned.Changes changes) = RemovesAtMost (removers_of write) (map change_of changes)
+RemovesFew write (planned.Refused refusal) = Unit {0}
 
 -- the row's own pair is the first change: an INSERT's changes are just the pairs of its row, an UPDATE puts a value
 -- at the row's key, and a DELETE removes it

@@ -4,7 +4,7 @@ ghost use Rattle.std.specs.List.{list_any, sum_by, count_by};
 ghost use Rattle.pq_base.specs.Columns.{has_col};
 ghost use Rattle.pq_schema.specs.Sound.{AreColumns, AreParts};
 ghost use Rattle.pq_content.specs.Standing.{write_ops};
-ghost use Rattle.pq_index_keep.specs.Bounds.{tested_foreign, tested_limits, tested_n, refers, referring_count, tests, most_changes, write_tests, write_bound};
+ghost use Rattle.pq_index_keep.specs.Bounds.{tested_foreign, tested_limits, tested_n, refers, referring_count, tests, most_changes, write_tests, write_bound, counted, tests_behind};
 ghost use Rattle.pq_index_keep.specs.Sound.{AreWritable, IsWrite};
 ghost use Rattle.pq_index_keep.specs.Tested.{touches, touches_index};
 
@@ -193,5 +193,41 @@ pub fn write_bound(catalog: &Catalog, write: &Write) -> Bound
     Bound {
         ops: tests.ops + commit_ops(most_changes(catalog, write)),
         entries: tests.entries,
+    }
+}
+
+/// How many limits of the write's table, or foreign keys that refer to it, the write may count rows of.
+fn counted(catalog: &Catalog, write: &Write) -> u128
+    requires sound { AreWritable catalog.now.tables }
+    requires write { IsWrite catalog.now.tables write.now }
+    ensures counted { result ≡ counted catalog.now.tables write.now }
+    ensures few { result < 2 ^ 80 }
+{
+    match write {
+        Write::Insert { table, .. } => {
+            tested_limits(&Scope::All, catalog.table(*table).limits.items()) as u128
+        }
+        Write::Update { table, sets, .. } => {
+            let scope = Scope::of(sets.items());
+            tested_limits(&scope, catalog.table(*table).limits.items()) as u128
+        }
+        Write::Delete { table, .. } => referring(catalog.tables(), *table),
+    }
+}
+
+/// The operations and entries that the tests of the write take behind so many writes of a batch that remove pairs.
+pub fn tests_behind(catalog: &Catalog, write: &Write, removers: u32) -> Bound
+    requires write { IsWrite catalog.now.tables write.now }
+    requires few { removers ≤ 256 }
+    ensures tests { result ≡ tests_behind removers catalog.now.tables write.now }
+    ensures ops { result.ops ≤ 300 }
+    ensures entries { result.entries ≤ 66000 }
+{
+    catalog.known();
+    let tests = write_tests(catalog, write);
+    let counted = counted(catalog, write);
+    Bound {
+        ops: tests.ops,
+        entries: tests.entries + counted * removers as u128,
     }
 }

@@ -22,7 +22,7 @@ mod update;
 mod write;
 mod writes;
 
-pub use bound::{commit_ops, most_changes, write_bound};
+pub use bound::{commit_ops, most_changes, tests_behind, write_bound};
 pub use check::check_write;
 pub use held::{condition_refusal, held_refusal, sum_refusal};
 pub use limits::stays;

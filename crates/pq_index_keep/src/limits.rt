@@ -1,5 +1,5 @@
 //! The groups that a row comes into by its table's limits.
-ghost use Rattle.std.specs.Prelude.{◌≡◌, List, All, position, IfOk, IfErr, IsSome, ◌<◌, length, IfSome};
+ghost use Rattle.std.specs.Prelude.{◌≡◌, List, All, position, IfOk, IfErr, IsSome, ◌<◌, ◌≤◌, ◌+◌, length, IfSome};
 ghost use Rattle.std.specs.List.{sum_by};
 ghost use Rattle.pq_base.specs.Columns.{set_of};
 ghost use Rattle.pq_base.specs.Values.{AllFit};
@@ -9,10 +9,10 @@ ghost use Rattle.pq_schema.specs.Tables.{table_at};
 ghost use Rattle.pq_schema.specs.declared.table.Table.{Table as Definition};
 ghost use Rattle.pq_content.specs.Pairs.{Pair};
 ghost use Rattle.pq_content.specs.Tables.{Rows, types_of};
-ghost use Rattle.pq_index_keep.specs.Bounds.{one_if, tested_limits, tested_n};
+ghost use Rattle.pq_index_keep.specs.Bounds.{one_if, tested_limits, tested_n_behind};
 ghost use Rattle.pq_index_keep.specs.Effects.{stays, is_full, lacks_room};
 ghost use Rattle.pq_store.specs.Breaks.{IsAnswered};
-ghost use Rattle.pq_calls.specs.Calls.{Uses, Fails};
+ghost use Rattle.pq_pending.specs.Calls.{Uses, Fails, seen, answers_of};
 ghost use Rattle.pq_calls.specs.World.{Affords, no_damage};
 ghost use Rattle.pq_index_keep.specs.Promises.{HoldsRows};
 ghost use Rattle.pq_index_keep.specs.Tested.{touches};
@@ -20,7 +20,7 @@ ghost use Rattle.pq_index_keep.specs.Tested.{touches};
 use crate::groups::count_group;
 use crate::write::Scope;
 use pq_base::Row;
-use pq_calls::Calls;
+use pq_pending::PendingCalls;
 use pq_row_keys::{null_at, same_cells, values_at};
 use pq_schema::{Limit, Table};
 use pq_store::{Broke, Store};
@@ -44,17 +44,20 @@ fn is_full<S: Store<L>, L: Ledger>(
     table: &Table,
     limit: &Limit,
     row: &Row,
-    calls: &mut Calls<S, L>,
+    calls: &mut PendingCalls<S, L>,
 ) -> Result<bool, Broke>
     requires columns { AreColumns limit.now.cols }
     requires table { IsTable table.now }
     requires access { IsSome (group_access table.now (set_of limit.now.cols)) }
-    requires share { Affords calls.old.allowance.now 1 limit.now.n }
-    ensures uses { Uses S.content S.faults calls.old calls.new 1 limit.now.n }
+    requires some { 1 ≤ limit.now.n }
+    requires small { limit.now.n ≤ 10000 }
+    requires few { calls.old.pending.now.removers ≤ 256 }
+    requires share { Affords calls.old.allowance.now 1 (limit.now.n + calls.old.pending.now.removers) }
+    ensures uses { Uses S.content S.faults calls.old calls.new 1 (limit.now.n + calls.old.pending.now.removers) }
     ensures cause { IfErr result (Fails no_damage S.content S.faults calls.old calls.new) }
-    ensures answered { IfErr result (IsAnswered S.answers) }
+    ensures answered { IfErr result (IsAnswered (answers_of S.answers calls.old)) }
     ensures answer { IfOk result (λ full. (tables : List Definition) (rows : Rows) (others : List Pair)
-        → HoldsRows (S.content calls.old.store.now) tables rows others → table.now ≡ table_at tables number →
+        → HoldsRows (seen S.content calls.old) tables rows others → table.now ≡ table_at tables number →
         AllFit (types_of table.now) row.now → full ≡ is_full rows number row.now limit.now) }
 {
     let values = values_at(alloc, row.items(), limit.cols.items())?;
@@ -80,19 +83,22 @@ fn lacks_room<S: Store<L>, L: Ledger>(
     table: &Table,
     limit: &Limit,
     row: &Row,
-    calls: &mut Calls<S, L>,
+    calls: &mut PendingCalls<S, L>,
 ) -> Result<bool, Broke>
     requires columns { AreColumns limit.now.cols }
     requires table { IsTable table.now }
     requires access { IsSome (group_access table.now (set_of limit.now.cols)) }
+    requires some { 1 ≤ limit.now.n }
+    requires small { limit.now.n ≤ 10000 }
+    requires few { calls.old.pending.now.removers ≤ 256 }
     requires share { Affords calls.old.allowance.now (one_if (touches scope.now limit.now.cols))
-        (tested_n scope.now limit.now) }
+        (tested_n_behind calls.old.pending.now.removers scope.now limit.now) }
     ensures uses { Uses S.content S.faults calls.old calls.new (one_if (touches scope.now limit.now.cols))
-        (tested_n scope.now limit.now) }
+        (tested_n_behind calls.old.pending.now.removers scope.now limit.now) }
     ensures cause { IfErr result (Fails no_damage S.content S.faults calls.old calls.new) }
-    ensures answered { IfErr result (IsAnswered S.answers) }
+    ensures answered { IfErr result (IsAnswered (answers_of S.answers calls.old)) }
     ensures answer { IfOk result (λ lacks. (tables : List Definition) (rows : Rows) (others : List Pair)
-        → HoldsRows (S.content calls.old.store.now) tables rows others → table.now ≡ table_at tables number →
+        → HoldsRows (seen S.content calls.old) tables rows others → table.now ≡ table_at tables number →
         AllFit (types_of table.now) row.now → lacks ≡ lacks_room rows scope.now old.now number row.now limit.now) }
 {
     if !scope.touches(limit.cols.items()) {
@@ -117,19 +123,22 @@ pub(crate) fn first_full<S: Store<L>, L: Ledger>(
     table: &Table,
     limits: &[Limit],
     row: &Row,
-    calls: &mut Calls<S, L>,
+    calls: &mut PendingCalls<S, L>,
 ) -> Result<Option<usize>, Broke>
     requires table { IsTable table.now }
     requires columns { All (λ limit. AreColumns limit.cols) limits.now }
     requires access { All (λ limit. IsSome (group_access table.now (set_of limit.cols))) limits.now }
+    requires some { All (λ limit. 1 ≤ limit.n) limits.now }
+    requires small { All (λ limit. limit.n ≤ 10000) limits.now }
+    requires few { calls.old.pending.now.removers ≤ 256 }
     requires share { Affords calls.old.allowance.now (tested_limits scope.now limits.now)
-        (sum_by (tested_n scope.now) limits.now) }
+        (sum_by (tested_n_behind calls.old.pending.now.removers scope.now) limits.now) }
     ensures uses { Uses S.content S.faults calls.old calls.new (tested_limits scope.now limits.now)
-        (sum_by (tested_n scope.now) limits.now) }
+        (sum_by (tested_n_behind calls.old.pending.now.removers scope.now) limits.now) }
     ensures cause { IfErr result (Fails no_damage S.content S.faults calls.old calls.new) }
-    ensures answered { IfErr result (IsAnswered S.answers) }
+    ensures answered { IfErr result (IsAnswered (answers_of S.answers calls.old)) }
     ensures answer { IfOk result (λ at. (tables : List Definition) (rows : Rows) (others : List Pair)
-        → HoldsRows (S.content calls.old.store.now) tables rows others → table.now ≡ table_at tables number →
+        → HoldsRows (seen S.content calls.old) tables rows others → table.now ≡ table_at tables number →
         AllFit (types_of table.now) row.now → at
         ≡ position (lacks_room rows scope.now old.now number row.now) limits.now) }
     ensures within { IfOk result (λ at. IfSome at (λ i. i < length limits.now)) }

@@ -9,13 +9,13 @@ ghost use Rattle.pq_schema.specs.Sound.{IsTable, AreColumns, AreParts};
 ghost use Rattle.pq_schema.specs.Tables.{table_at};
 ghost use Rattle.pq_content.specs.Pairs.{Pair};
 ghost use Rattle.pq_content.specs.Tables.{Rows, AllOfKinds, IsTableNumber, key_types, types_of, shape_of, key_of, row_at};
-ghost use Rattle.pq_index_keep.specs.Bounds.{referring_count, tests};
+ghost use Rattle.pq_index_keep.specs.Bounds.{referring_count, referring_behind, tested_behind, tests};
 ghost use Rattle.pq_index_keep.specs.Effects.{condition_refusal};
 ghost use Rattle.pq_store.specs.Breaks.{IsAnswered};
-ghost use Rattle.pq_calls.specs.Calls.{Uses, Fails};
+ghost use Rattle.pq_pending.specs.Calls.{Uses, Fails, seen, answers_of};
 ghost use Rattle.pq_calls.specs.Evidence.{IsRead, IsNoRow};
 ghost use Rattle.pq_calls.specs.World.{Affords, no_damage, where_told};
-ghost use Rattle.pq_index_keep.specs.Promises.{HoldsRows, Plans, IsPlannedWithin, ChangesOwn, IsReadFor, FitsItsTable, IsNewFor};
+ghost use Rattle.pq_index_keep.specs.Promises.{HoldsRows, Plans, IsPlannedWithin, ChangesOwn, IsShortWithin, RemovesFew, IsReadFor, FitsItsTable, IsNewFor};
 ghost use Rattle.pq_index_keep.specs.Refusals.{RefusesAs};
 ghost use Rattle.pq_index_keep.specs.Sound.{AreWritable, IsInsert, IsDelete};
 ghost use Rattle.pq_index_keep.specs.declared.write.Cond.{Cond as Condition};
@@ -26,7 +26,8 @@ use crate::references::child_refusal;
 use crate::refusals::insert_refusal;
 use crate::write::{Cond, Scope, Write};
 use pq_base::{Bytes, List, NoMem, Refusal, Row};
-use pq_calls::{Calls, StoredRow};
+use pq_calls::StoredRow;
+use pq_pending::PendingCalls;
 use pq_row_code::Change;
 use pq_row_keys::key_at;
 use pq_schema::{Catalog, Table};
@@ -59,6 +60,7 @@ pub fn table_of(catalog: &Catalog, number: u8) -> &Table
     ensures columns { All (λ f. AreColumns f.cols) result.now.foreign }
     ensures few { length result.now.foreign ≤ 4 }
     ensures access { All (λ limit. IsSome (group_access result.now (set_of limit.cols))) result.now.limits }
+    ensures some_rows { All (λ limit. 1 ≤ limit.n) result.now.limits }
     ensures key { AreColumns result.now.key }
     ensures parts { All (λ index. AreParts index.cols) result.now.indexes }
     ensures few_indexes { length result.now.indexes ≤ 16 }
@@ -86,22 +88,25 @@ pub(crate) fn plan_insert<S: Store<L>, L: Ledger>(
     catalog: &Catalog,
     number: u8,
     row: &Row,
-    calls: &mut Calls<S, L>,
+    calls: &mut PendingCalls<S, L>,
 ) -> Result<Planned, Broke>
     requires sound { AreWritable catalog.now.tables }
     requires insert { IsInsert catalog.now.tables number row.now }
+    requires removers { calls.old.pending.now.removers ≤ 256 }
     requires share { Affords calls.old.allowance.now (tests Scope.All (table_at catalog.now.tables number)).ops
-        (tests Scope.All (table_at catalog.now.tables number)).entries }
+        (tested_behind calls.old.pending.now.removers Scope.All (table_at catalog.now.tables number)).entries }
     ensures uses { Uses S.content S.faults calls.old calls.new
         (tests Scope.All (table_at catalog.now.tables number)).ops
-        (tests Scope.All (table_at catalog.now.tables number)).entries }
+        (tested_behind calls.old.pending.now.removers Scope.All (table_at catalog.now.tables number)).entries }
     ensures cause { IfErr result (Fails no_damage S.content S.faults calls.old calls.new) }
-    ensures answered { IfErr result (IsAnswered S.answers) }
+    ensures answered { IfErr result (IsAnswered (answers_of S.answers calls.old)) }
     ensures plan { IfOk result (IsPlannedWithin (1 + length (table_at catalog.now.tables number).indexes)) }
     ensures own { IfOk result (ChangesOwn catalog.now.tables (Write.Insert number row.now)) }
+    ensures short { IfOk result IsShortWithin }
+    ensures thin { IfOk result (RemovesFew (Write.Insert number row.now)) }
     ensures can { IfOk result (RefusesAs catalog.now.tables (Write.Insert number row.now)) }
     ensures answer { IfOk result (λ planned. (rows : Rows) (others : List Pair)
-        → HoldsRows (S.content calls.old.store.now) catalog.now.tables rows others
+        → HoldsRows (seen S.content calls.old) catalog.now.tables rows others
         → Plans catalog.now.tables rows others (Write.Insert number row.now) planned) }
 {
     let table = table_of(catalog, number);
@@ -122,7 +127,7 @@ pub(crate) fn find_row<S: Store<L>, L: Ledger>(
     catalog: &Catalog,
     number: u8,
     key: &Row,
-    calls: &mut Calls<S, L>,
+    calls: &mut PendingCalls<S, L>,
 ) -> Result<Option<StoredRow>, Broke>
     requires sound { AreWritable catalog.now.tables }
     requires number { IsTableNumber catalog.now.tables number }
@@ -131,11 +136,11 @@ pub(crate) fn find_row<S: Store<L>, L: Ledger>(
     ensures uses { Uses S.content S.faults calls.old calls.new 1 1 }
     ensures cause { IfErr result (Fails (where_told (IsNoRow catalog.now.tables)) S.content S.faults calls.old
         calls.new) }
-    ensures answered { IfErr result (IsAnswered S.answers) }
+    ensures answered { IfErr result (IsAnswered (answers_of S.answers calls.old)) }
     ensures answer { IfOk result (λ found. (rows : Rows) (others : List Pair)
-        → HoldsRows (S.content calls.old.store.now) catalog.now.tables rows others
+        → HoldsRows (seen S.content calls.old) catalog.now.tables rows others
         → option_map (λ stored. stored.row) found ≡ row_at catalog.now.tables rows number key.now) }
-    ensures read { IfOk result (λ found. IfSome (S.content calls.old.store.now)
+    ensures read { IfOk result (λ found. IfSome (seen S.content calls.old)
         (λ c. IsRead (shape_of (table_at catalog.now.tables number)) (value_at c (row_key number key.now))
         (option_map (λ stored. stored.row) found))) }
     ensures at { IfOk result (λ found. IfSome found (λ stored. stored.at ≡ row_key number key.now)) }
@@ -156,26 +161,30 @@ fn plan_removal<S: Store<L>, L: Ledger>(
     key: &Row,
     at: Bytes,
     row: &Row,
-    calls: &mut Calls<S, L>,
+    calls: &mut PendingCalls<S, L>,
 ) -> Result<Planned, Broke>
     requires sound { AreWritable catalog.now.tables }
     requires number { IsTableNumber catalog.now.tables number }
     requires key_fits { AllFit (key_types (table_at catalog.now.tables number)) key.now }
     requires at { at ≡ row_key number key.now }
     requires fits { AllFit (types_of (table_at catalog.now.tables number)) row.now }
+    requires removers { calls.old.pending.now.removers ≤ 256 }
     requires share { Affords calls.old.allowance.now (referring_count catalog.now.tables number)
-        (referring_count catalog.now.tables number) }
+        (referring_behind calls.old.pending.now.removers catalog.now.tables number) }
     ensures uses { Uses S.content S.faults calls.old calls.new (referring_count catalog.now.tables number)
-        (referring_count catalog.now.tables number) }
+        (referring_behind calls.old.pending.now.removers catalog.now.tables number) }
     ensures cause { IfErr result (Fails no_damage S.content S.faults calls.old calls.new) }
-    ensures answered { IfErr result (IsAnswered S.answers) }
+    ensures answered { IfErr result (IsAnswered (answers_of S.answers calls.old)) }
     ensures plan { IfOk result (IsPlannedWithin (1 + length (table_at catalog.now.tables number).indexes)) }
     ensures own { IfOk result (λ planned. (conds : List Condition)
         → ChangesOwn catalog.now.tables (Write.Delete number key.now conds) planned) }
+    ensures short { IfOk result IsShortWithin }
+    ensures thin { IfOk result (λ planned. (conds : List Condition)
+        → RemovesFew (Write.Delete number key.now conds) planned) }
     ensures can { IfOk result (λ planned. (conds : List Condition)
         → RefusesAs catalog.now.tables (Write.Delete number key.now conds) planned) }
     ensures answer { IfOk result (λ planned. (rows : Rows) (others : List Pair)
-        → HoldsRows (S.content calls.old.store.now) catalog.now.tables rows others →
+        → HoldsRows (seen S.content calls.old) catalog.now.tables rows others →
         Some row.now ≡ row_at catalog.now.tables rows number key.now → (conds : List Condition)
         → condition_refusal (table_at catalog.now.tables number) conds row.now ≡ None
         → Plans catalog.now.tables rows others (Write.Delete number key.now conds) planned) }
@@ -201,23 +210,26 @@ fn plan_held<S: Store<L>, L: Ledger>(
     conds: &List<Cond>,
     at: Bytes,
     row: &Row,
-    calls: &mut Calls<S, L>,
+    calls: &mut PendingCalls<S, L>,
 ) -> Result<Planned, Broke>
     requires sound { AreWritable catalog.now.tables }
     requires delete { IsDelete catalog.now.tables number key.now conds.now }
     requires at { at ≡ row_key number key.now }
     requires fits { AllFit (types_of (table_at catalog.now.tables number)) row.now }
+    requires removers { calls.old.pending.now.removers ≤ 256 }
     requires share { Affords calls.old.allowance.now (referring_count catalog.now.tables number)
-        (referring_count catalog.now.tables number) }
+        (referring_behind calls.old.pending.now.removers catalog.now.tables number) }
     ensures uses { Uses S.content S.faults calls.old calls.new (referring_count catalog.now.tables number)
-        (referring_count catalog.now.tables number) }
+        (referring_behind calls.old.pending.now.removers catalog.now.tables number) }
     ensures cause { IfErr result (Fails no_damage S.content S.faults calls.old calls.new) }
-    ensures answered { IfErr result (IsAnswered S.answers) }
+    ensures answered { IfErr result (IsAnswered (answers_of S.answers calls.old)) }
     ensures plan { IfOk result (IsPlannedWithin (1 + length (table_at catalog.now.tables number).indexes)) }
     ensures own { IfOk result (ChangesOwn catalog.now.tables (Write.Delete number key.now conds.now)) }
+    ensures short { IfOk result IsShortWithin }
+    ensures thin { IfOk result (RemovesFew (Write.Delete number key.now conds.now)) }
     ensures can { IfOk result (RefusesAs catalog.now.tables (Write.Delete number key.now conds.now)) }
     ensures answer { IfOk result (λ planned. (rows : Rows) (others : List Pair)
-        → HoldsRows (S.content calls.old.store.now) catalog.now.tables rows others →
+        → HoldsRows (seen S.content calls.old) catalog.now.tables rows others →
         Some row.now ≡ row_at catalog.now.tables rows number key.now
         → Plans catalog.now.tables rows others (Write.Delete number key.now conds.now) planned) }
 {
@@ -234,28 +246,31 @@ pub(crate) fn plan_delete<S: Store<L>, L: Ledger>(
     number: u8,
     key: &Row,
     conds: &List<Cond>,
-    calls: &mut Calls<S, L>,
+    calls: &mut PendingCalls<S, L>,
 ) -> Result<PlannedWrite, Broke>
     requires sound { AreWritable catalog.now.tables }
     requires delete { IsDelete catalog.now.tables number key.now conds.now }
+    requires removers { calls.old.pending.now.removers ≤ 256 }
     requires share { Affords calls.old.allowance.now (1 + referring_count catalog.now.tables number)
-        (1 + referring_count catalog.now.tables number) }
+        (1 + referring_behind calls.old.pending.now.removers catalog.now.tables number) }
     ensures uses { Uses S.content S.faults calls.old calls.new (1 + referring_count catalog.now.tables number)
-        (1 + referring_count catalog.now.tables number) }
+        (1 + referring_behind calls.old.pending.now.removers catalog.now.tables number) }
     ensures cause { IfErr result (Fails (where_told (IsNoRow catalog.now.tables)) S.content S.faults calls.old
         calls.new) }
-    ensures answered { IfErr result (IsAnswered S.answers) }
-    ensures plan { IfOk result (λ seen.
-        IsPlannedWithin (1 + length (table_at catalog.now.tables number).indexes) seen.planned) }
-    ensures own { IfOk result (λ seen. ChangesOwn catalog.now.tables (Write.Delete number key.now conds.now) seen.planned) }
-    ensures can { IfOk result (λ seen. RefusesAs catalog.now.tables (Write.Delete number key.now conds.now) seen.planned) }
-    ensures answer { IfOk result (λ seen. (rows : Rows) (others : List Pair)
-        → HoldsRows (S.content calls.old.store.now) catalog.now.tables rows others
-        → Plans catalog.now.tables rows others (Write.Delete number key.now conds.now) seen.planned) }
-    ensures read { IfOk result (λ seen. IfSome (S.content calls.old.store.now)
-        (λ c. IsReadFor catalog.now.tables (Write.Delete number key.now conds.now) c seen.old)) }
-    ensures fits { IfOk result (λ seen. FitsItsTable catalog.now.tables (Write.Delete number key.now conds.now) seen.old) }
-    ensures new { IfOk result (λ seen. IsNewFor catalog.now.tables (Write.Delete number key.now conds.now) seen.old seen.new) }
+    ensures answered { IfErr result (IsAnswered (answers_of S.answers calls.old)) }
+    ensures plan { IfOk result (λ made.
+        IsPlannedWithin (1 + length (table_at catalog.now.tables number).indexes) made.planned) }
+    ensures own { IfOk result (λ made. ChangesOwn catalog.now.tables (Write.Delete number key.now conds.now) made.planned) }
+    ensures short { IfOk result (λ made. IsShortWithin made.planned) }
+    ensures thin { IfOk result (λ made. RemovesFew (Write.Delete number key.now conds.now) made.planned) }
+    ensures can { IfOk result (λ made. RefusesAs catalog.now.tables (Write.Delete number key.now conds.now) made.planned) }
+    ensures answer { IfOk result (λ made. (rows : Rows) (others : List Pair)
+        → HoldsRows (seen S.content calls.old) catalog.now.tables rows others
+        → Plans catalog.now.tables rows others (Write.Delete number key.now conds.now) made.planned) }
+    ensures read { IfOk result (λ made. IfSome (seen S.content calls.old)
+        (λ c. IsReadFor catalog.now.tables (Write.Delete number key.now conds.now) c made.old)) }
+    ensures fits { IfOk result (λ made. FitsItsTable catalog.now.tables (Write.Delete number key.now conds.now) made.old) }
+    ensures new { IfOk result (λ made. IsNewFor catalog.now.tables (Write.Delete number key.now conds.now) made.old made.new) }
 {
     match find_row(alloc, catalog, number, key, calls) {
         Err(error) => Err(error),

@@ -2,10 +2,10 @@
 ghost use Rattle.std.specs.Prelude.{◌≡◌, ◌≤◌, ◌<◌, List, All, length, IfOk, IfErr, IfSome};
 ghost use Rattle.pq_content.specs.Pairs.{Pair};
 ghost use Rattle.pq_content.specs.Tables.{Rows};
-ghost use Rattle.pq_index_keep.specs.Bounds.{referring_count};
+ghost use Rattle.pq_index_keep.specs.Bounds.{referring_count, referring_behind};
 ghost use Rattle.pq_index_keep.specs.Effects.{referenced_refusal, child_refusal};
 ghost use Rattle.pq_store.specs.Breaks.{IsAnswered};
-ghost use Rattle.pq_calls.specs.Calls.{Uses, Fails};
+ghost use Rattle.pq_pending.specs.Calls.{Uses, Fails, seen, answers_of};
 ghost use Rattle.pq_calls.specs.World.{Affords, no_damage};
 ghost use Rattle.pq_index_keep.specs.Promises.{HoldsRows};
 ghost use Rattle.pq_index_keep.specs.Refusals.{IsDeleteRefusal};
@@ -13,7 +13,7 @@ ghost use Rattle.pq_index_keep.specs.Sound.{AreWritable, MayName};
 
 use crate::children::first_naming;
 use pq_base::{NoMem, Refusal, Row};
-use pq_calls::Calls;
+use pq_pending::PendingCalls;
 use pq_schema::Table;
 use pq_store::{Broke, Store};
 use std::alloc::Global;
@@ -36,20 +36,21 @@ pub(crate) fn child_refusal<S: Store<L>, L: Ledger>(
     tables: &[Table],
     number: u8,
     key: &Row,
-    calls: &mut Calls<S, L>,
+    calls: &mut PendingCalls<S, L>,
 ) -> Result<Option<Refusal>, Broke>
     requires few { length tables.now ≤ 64 }
     requires sound { AreWritable tables.now }
     requires may { All (λ table. All (MayName table number key.now) table.foreign) tables.now }
+    requires removers { calls.old.pending.now.removers ≤ 256 }
     requires share { Affords calls.old.allowance.now (referring_count tables.now number)
-        (referring_count tables.now number) }
+        (referring_behind calls.old.pending.now.removers tables.now number) }
     ensures uses { Uses S.content S.faults calls.old calls.new (referring_count tables.now number)
-        (referring_count tables.now number) }
+        (referring_behind calls.old.pending.now.removers tables.now number) }
     ensures cause { IfErr result (Fails no_damage S.content S.faults calls.old calls.new) }
-    ensures answered { IfErr result (IsAnswered S.answers) }
+    ensures answered { IfErr result (IsAnswered (answers_of S.answers calls.old)) }
     ensures can { IfOk result (λ refusal. IfSome refusal (IsDeleteRefusal tables.now)) }
     ensures answer { IfOk result (λ refusal. (rows : Rows) (others : List Pair)
-        → HoldsRows (S.content calls.old.store.now) tables.now rows others
+        → HoldsRows (seen S.content calls.old) tables.now rows others
         → refusal ≡ child_refusal rows number key.now 1 tables.now) }
 {
     for (i, table) in tables.iter().enumerate() {

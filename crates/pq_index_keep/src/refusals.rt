@@ -11,10 +11,10 @@ ghost use Rattle.pq_schema.specs.declared.table.Table.{Table as Definition};
 ghost use Rattle.pq_content.specs.Pairs.{Pair};
 ghost use Rattle.pq_content.specs.Tables.{Rows, AllOfKinds, key_types, cells, types_of, key_of};
 ghost use Rattle.pq_base.specs.Values.{AllFit};
-ghost use Rattle.pq_index_keep.specs.Bounds.{tested_foreign, tested_limits, tested_n, tests};
+ghost use Rattle.pq_index_keep.specs.Bounds.{tested_foreign, tested_limits, tested_n_behind, tested_behind, tests};
 ghost use Rattle.pq_index_keep.specs.Effects.{no_parent, no_room, parent_refusal, room_refusal, insert_refusal};
 ghost use Rattle.pq_store.specs.Breaks.{IsAnswered};
-ghost use Rattle.pq_calls.specs.Calls.{Uses, Fails};
+ghost use Rattle.pq_pending.specs.Calls.{Uses, Fails, seen, answers_of};
 ghost use Rattle.pq_calls.specs.World.{Affords, no_damage};
 ghost use Rattle.pq_index_keep.specs.Promises.{HoldsRows, IsTested};
 ghost use Rattle.pq_index_keep.specs.Refusals.{IsInsertRefusal, IsTestRefusal};
@@ -23,7 +23,7 @@ use crate::limits::first_full;
 use crate::parents::first_lacking;
 use crate::write::Scope;
 use pq_base::{NoMem, Refusal, Row};
-use pq_calls::Calls;
+use pq_pending::PendingCalls;
 use pq_schema::Table;
 use pq_store::{Broke, Store};
 use std::alloc::Global;
@@ -59,7 +59,7 @@ fn parent_refusal<S: Store<L>, L: Ledger>(
     scope: &Scope,
     table: &Table,
     row: &Row,
-    calls: &mut Calls<S, L>,
+    calls: &mut PendingCalls<S, L>,
 ) -> Result<Option<Refusal>, Broke>
     requires columns { All (λ f. AreColumns f.cols) table.now.foreign }
     requires few { length table.now.foreign ≤ 4 }
@@ -68,10 +68,10 @@ fn parent_refusal<S: Store<L>, L: Ledger>(
     ensures uses { Uses S.content S.faults calls.old calls.new (tested_foreign scope.now table.now.foreign)
         (tested_foreign scope.now table.now.foreign) }
     ensures cause { IfErr result (Fails no_damage S.content S.faults calls.old calls.new) }
-    ensures answered { IfErr result (IsAnswered S.answers) }
+    ensures answered { IfErr result (IsAnswered (answers_of S.answers calls.old)) }
     ensures can { IfOk result (λ refusal. IfSome refusal (IsTestRefusal table.now)) }
     ensures answer { IfOk result (λ refusal. (tables : List Definition) (rows : Rows) (others : List Pair)
-        → HoldsRows (S.content calls.old.store.now) tables rows others →
+        → HoldsRows (seen S.content calls.old) tables rows others →
         All (λ f. AllOfKinds (key_types (table_at tables f.table)) (cells f.cols row.now)) table.now.foreign
         → refusal ≡ parent_refusal tables rows scope.now table.now row.now) }
 {
@@ -90,19 +90,21 @@ fn room_refusal<S: Store<L>, L: Ledger>(
     number: u8,
     table: &Table,
     row: &Row,
-    calls: &mut Calls<S, L>,
+    calls: &mut PendingCalls<S, L>,
 ) -> Result<Option<Refusal>, Broke>
     requires table { IsTable table.now }
     requires access { All (λ limit. IsSome (group_access table.now (set_of limit.cols))) table.now.limits }
+    requires some { All (λ limit. 1 ≤ limit.n) table.now.limits }
+    requires removers { calls.old.pending.now.removers ≤ 256 }
     requires share { Affords calls.old.allowance.now (tested_limits scope.now table.now.limits)
-        (sum_by (tested_n scope.now) table.now.limits) }
+        (sum_by (tested_n_behind calls.old.pending.now.removers scope.now) table.now.limits) }
     ensures uses { Uses S.content S.faults calls.old calls.new (tested_limits scope.now table.now.limits)
-        (sum_by (tested_n scope.now) table.now.limits) }
+        (sum_by (tested_n_behind calls.old.pending.now.removers scope.now) table.now.limits) }
     ensures cause { IfErr result (Fails no_damage S.content S.faults calls.old calls.new) }
-    ensures answered { IfErr result (IsAnswered S.answers) }
+    ensures answered { IfErr result (IsAnswered (answers_of S.answers calls.old)) }
     ensures can { IfOk result (λ refusal. IfSome refusal (IsTestRefusal table.now)) }
     ensures answer { IfOk result (λ refusal. (tables : List Definition) (rows : Rows) (others : List Pair)
-        → HoldsRows (S.content calls.old.store.now) tables rows others → table.now ≡ table_at tables number →
+        → HoldsRows (seen S.content calls.old) tables rows others → table.now ≡ table_at tables number →
         AllFit (types_of table.now) row.now → refusal ≡ room_refusal rows scope.now old.now number table.now row.now) }
 {
     let limits = table.limits.items();
@@ -120,23 +122,25 @@ pub(crate) fn tested_refusal<S: Store<L>, L: Ledger>(
     number: u8,
     table: &Table,
     row: &Row,
-    calls: &mut Calls<S, L>,
+    calls: &mut PendingCalls<S, L>,
 ) -> Result<Option<Refusal>, Broke>
     requires table { IsTable table.now }
     requires columns { All (λ f. AreColumns f.cols) table.now.foreign }
     requires few { length table.now.foreign ≤ 4 }
     requires access { All (λ limit. IsSome (group_access table.now (set_of limit.cols))) table.now.limits }
+    requires some { All (λ limit. 1 ≤ limit.n) table.now.limits }
+    requires removers { calls.old.pending.now.removers ≤ 256 }
     requires share { Affords calls.old.allowance.now
         (tested_foreign scope.now table.now.foreign + tested_limits scope.now table.now.limits)
-        (tested_foreign scope.now table.now.foreign + sum_by (tested_n scope.now) table.now.limits) }
+        (tested_foreign scope.now table.now.foreign + sum_by (tested_n_behind calls.old.pending.now.removers scope.now) table.now.limits) }
     ensures uses { Uses S.content S.faults calls.old calls.new
         (tested_foreign scope.now table.now.foreign + tested_limits scope.now table.now.limits)
-        (tested_foreign scope.now table.now.foreign + sum_by (tested_n scope.now) table.now.limits) }
+        (tested_foreign scope.now table.now.foreign + sum_by (tested_n_behind calls.old.pending.now.removers scope.now) table.now.limits) }
     ensures cause { IfErr result (Fails no_damage S.content S.faults calls.old calls.new) }
-    ensures answered { IfErr result (IsAnswered S.answers) }
+    ensures answered { IfErr result (IsAnswered (answers_of S.answers calls.old)) }
     ensures can { IfOk result (λ refusal. IfSome refusal (IsTestRefusal table.now)) }
     ensures answer { IfOk result (λ refusal. (tables : List Definition) (rows : Rows) (others : List Pair)
-        → HoldsRows (S.content calls.old.store.now) tables rows others → table.now ≡ table_at tables number →
+        → HoldsRows (seen S.content calls.old) tables rows others → table.now ≡ table_at tables number →
         IsTested tables table.now row.now → refusal
         ≡ or_else (parent_refusal tables rows scope.now table.now row.now)
         (room_refusal rows scope.now old.now number table.now row.now)) }
@@ -154,22 +158,24 @@ pub(crate) fn insert_refusal<S: Store<L>, L: Ledger>(
     number: u8,
     table: &Table,
     row: &Row,
-    calls: &mut Calls<S, L>,
+    calls: &mut PendingCalls<S, L>,
 ) -> Result<Option<Refusal>, Broke>
     requires table { IsTable table.now }
     requires columns { All (λ f. AreColumns f.cols) table.now.foreign }
     requires few { length table.now.foreign ≤ 4 }
     requires access { All (λ limit. IsSome (group_access table.now (set_of limit.cols))) table.now.limits }
     requires at { at.now ≡ row_key number (key_of table.now row.now) }
+    requires some { All (λ limit. 1 ≤ limit.n) table.now.limits }
+    requires removers { calls.old.pending.now.removers ≤ 256 }
     requires share { Affords calls.old.allowance.now (tests Scope.All table.now).ops
-        (tests Scope.All table.now).entries }
+        (tested_behind calls.old.pending.now.removers Scope.All table.now).entries }
     ensures uses { Uses S.content S.faults calls.old calls.new (tests Scope.All table.now).ops
-        (tests Scope.All table.now).entries }
+        (tested_behind calls.old.pending.now.removers Scope.All table.now).entries }
     ensures cause { IfErr result (Fails no_damage S.content S.faults calls.old calls.new) }
-    ensures answered { IfErr result (IsAnswered S.answers) }
+    ensures answered { IfErr result (IsAnswered (answers_of S.answers calls.old)) }
     ensures can { IfOk result (λ refusal. IfSome refusal (IsInsertRefusal table.now)) }
     ensures answer { IfOk result (λ refusal. (tables : List Definition) (rows : Rows) (others : List Pair)
-        → HoldsRows (S.content calls.old.store.now) tables rows others → table.now ≡ table_at tables number →
+        → HoldsRows (seen S.content calls.old) tables rows others → table.now ≡ table_at tables number →
         IsTested tables table.now row.now → refusal ≡ insert_refusal tables rows number row.now) }
 {
     if calls.has_value(alloc, at)? {

@@ -1,5 +1,5 @@
 //! What an UPDATE changes.
-ghost use Rattle.std.specs.Prelude.{◌≡◌, ◌≤◌, ◌<◌, ◌+◌, ◌*◌, List, All, Some, None, length, slice_set, nat_lt, IfOk, IfErr, IfSome, IsSome};
+ghost use Rattle.std.specs.Prelude.{◌≡◌, ◌≤◌, ◌<◌, ◌+◌, ◌*◌, List, All, Some, None, length, slice_set, nat_lt, IfOk, IfErr, IfSome, IfNone, IsSome};
 ghost use Rattle.std.specs.List.{AllByRecursion, count_by, sum_by};
 ghost use Rattle.pq_base.specs.Answers.{or_else};
 ghost use Rattle.pq_base.specs.Columns.{set_of};
@@ -13,13 +13,13 @@ ghost use Rattle.pq_schema.specs.Tables.{table_at};
 ghost use Rattle.pq_schema.specs.declared.table.Table.{Table as Definition};
 ghost use Rattle.pq_content.specs.Pairs.{Pair};
 ghost use Rattle.pq_content.specs.Tables.{Rows, IsTableNumber, key_types, types_of, row_at, stored_code};
-ghost use Rattle.pq_index_keep.specs.Bounds.{tested_foreign, tested_limits, tested_n, tests};
+ghost use Rattle.pq_index_keep.specs.Bounds.{tested_foreign, tested_limits, tested_n_behind, tested_behind, tests};
 ghost use Rattle.pq_index_keep.specs.Effects.{condition_refusal, sum_refusal, parent_refusal, room_refusal};
 ghost use Rattle.pq_store.specs.Breaks.{IsAnswered};
-ghost use Rattle.pq_calls.specs.Calls.{Uses, Fails};
+ghost use Rattle.pq_pending.specs.Calls.{Uses, Fails, seen, answers_of};
 ghost use Rattle.pq_calls.specs.Evidence.{IsNoRow};
 ghost use Rattle.pq_calls.specs.World.{Affords, no_damage, where_told};
-ghost use Rattle.pq_index_keep.specs.Promises.{HoldsRows, IsTested, Plans, IsPlannedWithin, ChangesOwn, IsReadFor, FitsItsTable, IsNewFor};
+ghost use Rattle.pq_index_keep.specs.Promises.{HoldsRows, IsTested, Plans, IsPlannedWithin, ChangesOwn, IsShortWithin, RemovesFew, IsReadFor, FitsItsTable, IsNewFor};
 ghost use Rattle.pq_index_keep.specs.Refusals.{IsUpdateRefusal, RefusesAs};
 ghost use Rattle.pq_index_keep.specs.Sound.{AreWritable, IsSet, IsUpdate};
 ghost use Rattle.pq_index_keep.specs.declared.write.Cond.{Cond as Condition};
@@ -31,7 +31,8 @@ use crate::plan::{Planned, PlannedWrite, find_row, no_row, table_of};
 use crate::refusals::tested_refusal;
 use crate::write::{Cond, Scope, SetCol, Write};
 use pq_base::{Bytes, List, NoMem, Refusal, Row, Value};
-use pq_calls::{Calls, StoredRow};
+use pq_calls::StoredRow;
+use pq_pending::PendingCalls;
 use pq_row_code::stored_code_len;
 use pq_schema::{Catalog, Table};
 use pq_store::{Broke, Store};
@@ -99,7 +100,7 @@ fn update_refusal<S: Store<L>, L: Ledger>(
     number: u8,
     table: &Table,
     new: &Row,
-    calls: &mut Calls<S, L>,
+    calls: &mut PendingCalls<S, L>,
 ) -> Result<Option<Refusal>, Broke>
     requires table { IsTable table.now }
     requires columns { All (λ f. AreColumns f.cols) table.now.foreign }
@@ -107,17 +108,20 @@ fn update_refusal<S: Store<L>, L: Ledger>(
     requires access { All (λ limit. IsSome (group_access table.now (set_of limit.cols))) table.now.limits }
     requires long { length new.now ≤ 32 }
     requires texts { All IsShort new.now }
+    requires some { All (λ limit. 1 ≤ limit.n) table.now.limits }
+    requires removers { calls.old.pending.now.removers ≤ 256 }
     requires share { Affords calls.old.allowance.now
         (tested_foreign scope.now table.now.foreign + tested_limits scope.now table.now.limits)
-        (tested_foreign scope.now table.now.foreign + sum_by (tested_n scope.now) table.now.limits) }
+        (tested_foreign scope.now table.now.foreign + sum_by (tested_n_behind calls.old.pending.now.removers scope.now) table.now.limits) }
     ensures uses { Uses S.content S.faults calls.old calls.new
         (tested_foreign scope.now table.now.foreign + tested_limits scope.now table.now.limits)
-        (tested_foreign scope.now table.now.foreign + sum_by (tested_n scope.now) table.now.limits) }
+        (tested_foreign scope.now table.now.foreign + sum_by (tested_n_behind calls.old.pending.now.removers scope.now) table.now.limits) }
     ensures cause { IfErr result (Fails no_damage S.content S.faults calls.old calls.new) }
-    ensures answered { IfErr result (IsAnswered S.answers) }
+    ensures answered { IfErr result (IsAnswered (answers_of S.answers calls.old)) }
     ensures can { IfOk result (λ refusal. IfSome refusal (IsUpdateRefusal table.now)) }
+    ensures short { IfOk result (λ refusal. IfNone refusal (length (stored_code table.now new.now) ≤ 4096)) }
     ensures answer { IfOk result (λ refusal. (tables : List Definition) (rows : Rows) (others : List Pair)
-        → HoldsRows (S.content calls.old.store.now) tables rows others → table.now ≡ table_at tables number →
+        → HoldsRows (seen S.content calls.old) tables rows others → table.now ≡ table_at tables number →
         IsTested tables table.now new.now → refusal
         ≡ or_else (refused_if (nat_lt 4096 (length (stored_code table.now new.now)))
         (Refusal.RowLong table.now.name (length (stored_code table.now new.now))))
@@ -142,7 +146,7 @@ fn plan_change<S: Store<L>, L: Ledger>(
     at: Bytes,
     row: &Row,
     new: &Row,
-    calls: &mut Calls<S, L>,
+    calls: &mut PendingCalls<S, L>,
 ) -> Result<Planned, Broke>
     requires sound { AreWritable catalog.now.tables }
     requires number { IsTableNumber catalog.now.tables number }
@@ -152,27 +156,31 @@ fn plan_change<S: Store<L>, L: Ledger>(
     requires fits { AllFit (types_of (table_at catalog.now.tables number)) row.now }
     requires sums { sum_refusal (table_at catalog.now.tables number) sets.now row.now ≡ None }
     requires new { new.now ≡ with_sets sets.now row.now }
+    requires removers { calls.old.pending.now.removers ≤ 256 }
     requires share { Affords calls.old.allowance.now
         (tested_foreign (scope_of sets.now) (table_at catalog.now.tables number).foreign
         + tested_limits (scope_of sets.now) (table_at catalog.now.tables number).limits)
         (tested_foreign (scope_of sets.now) (table_at catalog.now.tables number).foreign
-        + sum_by (tested_n (scope_of sets.now)) (table_at catalog.now.tables number).limits) }
+        + sum_by (tested_n_behind calls.old.pending.now.removers (scope_of sets.now)) (table_at catalog.now.tables number).limits) }
     ensures uses { Uses S.content S.faults calls.old calls.new
         (tested_foreign (scope_of sets.now) (table_at catalog.now.tables number).foreign
         + tested_limits (scope_of sets.now) (table_at catalog.now.tables number).limits)
         (tested_foreign (scope_of sets.now) (table_at catalog.now.tables number).foreign
-        + sum_by (tested_n (scope_of sets.now)) (table_at catalog.now.tables number).limits) }
+        + sum_by (tested_n_behind calls.old.pending.now.removers (scope_of sets.now)) (table_at catalog.now.tables number).limits) }
     ensures cause { IfErr result (Fails no_damage S.content S.faults calls.old calls.new) }
-    ensures answered { IfErr result (IsAnswered S.answers) }
+    ensures answered { IfErr result (IsAnswered (answers_of S.answers calls.old)) }
     ensures plan { IfOk result (IsPlannedWithin
         (1 + 2 * count_by (touches_index (scope_of sets.now) (table_at catalog.now.tables number))
         (table_at catalog.now.tables number).indexes)) }
     ensures own { IfOk result (λ planned. (conds : List Condition)
         → ChangesOwn catalog.now.tables (Write.Update number key.now sets.now conds) planned) }
+    ensures short { IfOk result IsShortWithin }
+    ensures thin { IfOk result (λ planned. (conds : List Condition)
+        → RemovesFew (Write.Update number key.now sets.now conds) planned) }
     ensures can { IfOk result (λ planned. (conds : List Condition)
         → RefusesAs catalog.now.tables (Write.Update number key.now sets.now conds) planned) }
     ensures answer { IfOk result (λ planned. (rows : Rows) (others : List Pair)
-        → HoldsRows (S.content calls.old.store.now) catalog.now.tables rows others →
+        → HoldsRows (seen S.content calls.old) catalog.now.tables rows others →
         Some row.now ≡ row_at catalog.now.tables rows number key.now → (conds : List Condition)
         → condition_refusal (table_at catalog.now.tables number) conds row.now ≡ None
         → Plans catalog.now.tables rows others (Write.Update number key.now sets.now conds) planned) }
@@ -201,33 +209,36 @@ fn plan_held<S: Store<L>, L: Ledger>(
     conds: &List<Cond>,
     at: Bytes,
     row: &Row,
-    calls: &mut Calls<S, L>,
+    calls: &mut PendingCalls<S, L>,
 ) -> Result<(Planned, Option<Row>), Broke>
     requires sound { AreWritable catalog.now.tables }
     requires update { IsUpdate catalog.now.tables number key.now sets.now conds.now }
     requires at { at ≡ row_key number key.now }
     requires fits { AllFit (types_of (table_at catalog.now.tables number)) row.now }
+    requires removers { calls.old.pending.now.removers ≤ 256 }
     requires share { Affords calls.old.allowance.now
         (tested_foreign (scope_of sets.now) (table_at catalog.now.tables number).foreign
         + tested_limits (scope_of sets.now) (table_at catalog.now.tables number).limits)
         (tested_foreign (scope_of sets.now) (table_at catalog.now.tables number).foreign
-        + sum_by (tested_n (scope_of sets.now)) (table_at catalog.now.tables number).limits) }
+        + sum_by (tested_n_behind calls.old.pending.now.removers (scope_of sets.now)) (table_at catalog.now.tables number).limits) }
     ensures uses { Uses S.content S.faults calls.old calls.new
         (tested_foreign (scope_of sets.now) (table_at catalog.now.tables number).foreign
         + tested_limits (scope_of sets.now) (table_at catalog.now.tables number).limits)
         (tested_foreign (scope_of sets.now) (table_at catalog.now.tables number).foreign
-        + sum_by (tested_n (scope_of sets.now)) (table_at catalog.now.tables number).limits) }
+        + sum_by (tested_n_behind calls.old.pending.now.removers (scope_of sets.now)) (table_at catalog.now.tables number).limits) }
     ensures cause { IfErr result (Fails no_damage S.content S.faults calls.old calls.new) }
-    ensures answered { IfErr result (IsAnswered S.answers) }
+    ensures answered { IfErr result (IsAnswered (answers_of S.answers calls.old)) }
     ensures plan { IfOk result (λ made. IsPlannedWithin
         (1 + 2 * count_by (touches_index (scope_of sets.now) (table_at catalog.now.tables number))
         (table_at catalog.now.tables number).indexes) made.0) }
     ensures own { IfOk result (λ made.
         ChangesOwn catalog.now.tables (Write.Update number key.now sets.now conds.now) made.0) }
+    ensures short { IfOk result (λ made. IsShortWithin made.0) }
+    ensures thin { IfOk result (λ made. RemovesFew (Write.Update number key.now sets.now conds.now) made.0) }
     ensures can { IfOk result (λ made.
         RefusesAs catalog.now.tables (Write.Update number key.now sets.now conds.now) made.0) }
     ensures answer { IfOk result (λ made. (rows : Rows) (others : List Pair)
-        → HoldsRows (S.content calls.old.store.now) catalog.now.tables rows others →
+        → HoldsRows (seen S.content calls.old) catalog.now.tables rows others →
         Some row.now ≡ row_at catalog.now.tables rows number key.now
         → Plans catalog.now.tables rows others (Write.Update number key.now sets.now conds.now) made.0) }
     ensures new { IfOk result (λ made.
@@ -254,35 +265,40 @@ pub(crate) fn plan_update<S: Store<L>, L: Ledger>(
     key: &Row,
     sets: &List<SetCol>,
     conds: &List<Cond>,
-    calls: &mut Calls<S, L>,
+    calls: &mut PendingCalls<S, L>,
 ) -> Result<PlannedWrite, Broke>
     requires sound { AreWritable catalog.now.tables }
     requires update { IsUpdate catalog.now.tables number key.now sets.now conds.now }
+    requires removers { calls.old.pending.now.removers ≤ 256 }
     requires share { Affords calls.old.allowance.now
         (tests (scope_of sets.now) (table_at catalog.now.tables number)).ops
-        (tests (scope_of sets.now) (table_at catalog.now.tables number)).entries }
+        (tested_behind calls.old.pending.now.removers (scope_of sets.now)
+        (table_at catalog.now.tables number)).entries }
     ensures uses { Uses S.content S.faults calls.old calls.new
         (tests (scope_of sets.now) (table_at catalog.now.tables number)).ops
-        (tests (scope_of sets.now) (table_at catalog.now.tables number)).entries }
+        (tested_behind calls.old.pending.now.removers (scope_of sets.now)
+        (table_at catalog.now.tables number)).entries }
     ensures cause { IfErr result (Fails (where_told (IsNoRow catalog.now.tables)) S.content S.faults calls.old
         calls.new) }
-    ensures answered { IfErr result (IsAnswered S.answers) }
-    ensures plan { IfOk result (λ seen. IsPlannedWithin
+    ensures answered { IfErr result (IsAnswered (answers_of S.answers calls.old)) }
+    ensures plan { IfOk result (λ made. IsPlannedWithin
         (1 + 2 * count_by (touches_index (scope_of sets.now) (table_at catalog.now.tables number))
-        (table_at catalog.now.tables number).indexes) seen.planned) }
-    ensures own { IfOk result (λ seen.
-        ChangesOwn catalog.now.tables (Write.Update number key.now sets.now conds.now) seen.planned) }
-    ensures can { IfOk result (λ seen.
-        RefusesAs catalog.now.tables (Write.Update number key.now sets.now conds.now) seen.planned) }
-    ensures answer { IfOk result (λ seen. (rows : Rows) (others : List Pair)
-        → HoldsRows (S.content calls.old.store.now) catalog.now.tables rows others
-        → Plans catalog.now.tables rows others (Write.Update number key.now sets.now conds.now) seen.planned) }
-    ensures read { IfOk result (λ seen. IfSome (S.content calls.old.store.now)
-        (λ c. IsReadFor catalog.now.tables (Write.Update number key.now sets.now conds.now) c seen.old)) }
-    ensures fits { IfOk result (λ seen.
-        FitsItsTable catalog.now.tables (Write.Update number key.now sets.now conds.now) seen.old) }
-    ensures new { IfOk result (λ seen.
-        IsNewFor catalog.now.tables (Write.Update number key.now sets.now conds.now) seen.old seen.new) }
+        (table_at catalog.now.tables number).indexes) made.planned) }
+    ensures own { IfOk result (λ made.
+        ChangesOwn catalog.now.tables (Write.Update number key.now sets.now conds.now) made.planned) }
+    ensures short { IfOk result (λ made. IsShortWithin made.planned) }
+    ensures thin { IfOk result (λ made. RemovesFew (Write.Update number key.now sets.now conds.now) made.planned) }
+    ensures can { IfOk result (λ made.
+        RefusesAs catalog.now.tables (Write.Update number key.now sets.now conds.now) made.planned) }
+    ensures answer { IfOk result (λ made. (rows : Rows) (others : List Pair)
+        → HoldsRows (seen S.content calls.old) catalog.now.tables rows others
+        → Plans catalog.now.tables rows others (Write.Update number key.now sets.now conds.now) made.planned) }
+    ensures read { IfOk result (λ made. IfSome (seen S.content calls.old)
+        (λ c. IsReadFor catalog.now.tables (Write.Update number key.now sets.now conds.now) c made.old)) }
+    ensures fits { IfOk result (λ made.
+        FitsItsTable catalog.now.tables (Write.Update number key.now sets.now conds.now) made.old) }
+    ensures new { IfOk result (λ made.
+        IsNewFor catalog.now.tables (Write.Update number key.now sets.now conds.now) made.old made.new) }
 {
     match find_row(alloc, catalog, number, key, calls) {
         Err(error) => Err(error),

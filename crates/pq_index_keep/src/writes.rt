@@ -1,21 +1,22 @@
 //! The plan of any write.
-ghost use Rattle.std.specs.Prelude.{List, IfOk, IfErr, IfSome};
+ghost use Rattle.std.specs.Prelude.{◌≡◌, ◌≤◌, List, IfOk, IfErr, IfSome};
 ghost use Rattle.pq_content.specs.Pairs.{Pair};
 ghost use Rattle.pq_content.specs.Standing.{write_ops};
 ghost use Rattle.pq_content.specs.Tables.{Rows};
-ghost use Rattle.pq_index_keep.specs.Bounds.{most_changes, write_tests, write_bound};
+ghost use Rattle.pq_index_keep.specs.Bounds.{most_changes, write_tests, write_bound, tests_behind};
 ghost use Rattle.pq_store.specs.Breaks.{IsUndamaged, IsAnswered};
-ghost use Rattle.pq_calls.specs.Calls.{Uses, Fails};
+ghost use Rattle.pq_pending.specs.Calls.{Uses, Fails, seen, answers_of};
+ghost use Rattle.pq_pending.specs.Pending.{seen_content, seen_answers};
 ghost use Rattle.pq_calls.specs.Evidence.{IsNoRow};
 ghost use Rattle.pq_calls.specs.World.{world, Affords, Reads, Explains, where_told};
-ghost use Rattle.pq_index_keep.specs.Promises.{HoldsRows, Plans, IsPlannedWithin, ChangesOwn, IsReadFor, FitsItsTable, IsNewFor};
+ghost use Rattle.pq_index_keep.specs.Promises.{HoldsRows, Plans, IsPlannedWithin, ChangesOwn, IsShortWithin, RemovesFew, IsReadFor, FitsItsTable, IsNewFor};
 ghost use Rattle.pq_index_keep.specs.Refusals.{RefusesAs};
 ghost use Rattle.pq_index_keep.specs.Sound.{AreWritable, IsWrite};
 
 use crate::plan::{Planned, PlannedWrite, plan_delete, plan_insert};
 use crate::update::plan_update;
 use crate::write::Write;
-use pq_calls::Calls;
+use pq_pending::{Pending, PendingCalls};
 use pq_schema::Catalog;
 use pq_store::{Allowance, Broke, Meter, Store};
 use std::alloc::Global;
@@ -26,27 +27,32 @@ fn plan_by<S: Store<L>, L: Ledger>(
     alloc: Global,
     catalog: &Catalog,
     write: &Write,
-    calls: &mut Calls<S, L>,
+    calls: &mut PendingCalls<S, L>,
 ) -> Result<PlannedWrite, Broke>
     requires sound { AreWritable catalog.now.tables }
     requires write { IsWrite catalog.now.tables write.now }
-    requires share { Affords calls.old.allowance.now (write_tests catalog.now.tables write.now).ops
-        (write_tests catalog.now.tables write.now).entries }
+    requires removers { calls.old.pending.now.removers ≤ 256 }
+    requires share { Affords calls.old.allowance.now
+        (tests_behind calls.old.pending.now.removers catalog.now.tables write.now).ops
+        (tests_behind calls.old.pending.now.removers catalog.now.tables write.now).entries }
     ensures uses { Uses S.content S.faults calls.old calls.new
-        (write_tests catalog.now.tables write.now).ops (write_tests catalog.now.tables write.now).entries }
+        (tests_behind calls.old.pending.now.removers catalog.now.tables write.now).ops
+        (tests_behind calls.old.pending.now.removers catalog.now.tables write.now).entries }
     ensures cause { IfErr result (Fails (where_told (IsNoRow catalog.now.tables)) S.content S.faults calls.old
         calls.new) }
-    ensures answered { IfErr result (IsAnswered S.answers) }
-    ensures plan { IfOk result (λ seen. IsPlannedWithin (most_changes catalog.now.tables write.now) seen.planned) }
-    ensures own { IfOk result (λ seen. ChangesOwn catalog.now.tables write.now seen.planned) }
-    ensures can { IfOk result (λ seen. RefusesAs catalog.now.tables write.now seen.planned) }
-    ensures answer { IfOk result (λ seen. (rows : Rows) (others : List Pair) →
-        HoldsRows (S.content calls.old.store.now) catalog.now.tables rows others
-        → Plans catalog.now.tables rows others write.now seen.planned) }
-    ensures read { IfOk result (λ seen. IfSome (S.content calls.old.store.now)
-        (λ c. IsReadFor catalog.now.tables write.now c seen.old)) }
-    ensures fits { IfOk result (λ seen. FitsItsTable catalog.now.tables write.now seen.old) }
-    ensures new { IfOk result (λ seen. IsNewFor catalog.now.tables write.now seen.old seen.new) }
+    ensures answered { IfErr result (IsAnswered (answers_of S.answers calls.old)) }
+    ensures plan { IfOk result (λ made. IsPlannedWithin (most_changes catalog.now.tables write.now) made.planned) }
+    ensures own { IfOk result (λ made. ChangesOwn catalog.now.tables write.now made.planned) }
+    ensures short { IfOk result (λ made. IsShortWithin made.planned) }
+    ensures thin { IfOk result (λ made. RemovesFew write.now made.planned) }
+    ensures can { IfOk result (λ made. RefusesAs catalog.now.tables write.now made.planned) }
+    ensures answer { IfOk result (λ made. (rows : Rows) (others : List Pair) →
+        HoldsRows (seen S.content calls.old) catalog.now.tables rows others
+        → Plans catalog.now.tables rows others write.now made.planned) }
+    ensures read { IfOk result (λ made. IfSome (seen S.content calls.old)
+        (λ c. IsReadFor catalog.now.tables write.now c made.old)) }
+    ensures fits { IfOk result (λ made. FitsItsTable catalog.now.tables write.now made.old) }
+    ensures new { IfOk result (λ made. IsNewFor catalog.now.tables write.now made.old made.new) }
 {
     match write {
         Write::Insert { table, row } => {
@@ -79,44 +85,54 @@ fn plan_by<S: Store<L>, L: Ledger>(
     }
 }
 
-/// The changes that the write makes, or its first refusal, and the rows that it was planned by. It changes nothing in
-/// the store, and leaves enough of the allowance for the changes.
+/// The changes that the write makes behind those that are pending, or its first refusal, and the rows that it was planned
+/// by. It changes nothing in the store. Each count of a test may read one pair more for each write before it that removes
+/// pairs.
 pub fn plan_with_rows<S: Store<L>, L: Ledger>(
     alloc: Global,
     catalog: &Catalog,
     write: &Write,
+    pending: &Pending,
     store: &mut S,
     allowance: &mut Allowance,
     meter: &mut Meter<L>,
 ) -> Result<PlannedWrite, Broke>
     requires write { IsWrite catalog.now.tables write.now }
-    requires share { Affords allowance.old (write_bound catalog.now.tables write.now).ops
-        (write_bound catalog.now.tables write.now).entries }
-    ensures reads { Reads (world (S.content store.old) (S.faults store.old) allowance.old meter.old)
-        (world (S.content store.new) (S.faults store.new) allowance.new meter.new)
-        (write_tests catalog.now.tables write.now).ops (write_tests catalog.now.tables write.now).entries }
-    ensures left { Affords allowance.new (write_ops (most_changes catalog.now.tables write.now)) 0 }
+    requires few { pending.now.removers ≤ 256 }
+    requires share { Affords allowance.old
+        (tests_behind pending.now.removers catalog.now.tables write.now).ops
+        (tests_behind pending.now.removers catalog.now.tables write.now).entries }
+    ensures same { S.content store.new ≡ S.content store.old }
+    ensures reads { Reads
+        (world (seen_content pending.now.changes (S.content store.old)) (S.faults store.old) allowance.old meter.old)
+        (world (seen_content pending.now.changes (S.content store.new)) (S.faults store.new) allowance.new meter.new)
+        (tests_behind pending.now.removers catalog.now.tables write.now).ops
+        (tests_behind pending.now.removers catalog.now.tables write.now).entries }
     ensures cause { IfErr result (Explains (where_told (IsNoRow catalog.now.tables))
-        (world (S.content store.old) (S.faults store.old) allowance.old meter.old)
-        (world (S.content store.new) (S.faults store.new) allowance.new meter.new)) }
-    ensures answered { IfErr result (IsAnswered S.answers) }
+        (world (seen_content pending.now.changes (S.content store.old)) (S.faults store.old) allowance.old meter.old)
+        (world (seen_content pending.now.changes (S.content store.new)) (S.faults store.new) allowance.new meter.new)) }
+    ensures answered { IfErr result (IsAnswered (seen_answers S.answers pending.now.changes)) }
     ensures undamaged { IfErr result (λ error. (rows : Rows) (others : List Pair)
-        → HoldsRows (S.content store.old) catalog.now.tables rows others → IsUndamaged error) }
+        → HoldsRows (seen_content pending.now.changes (S.content store.old)) catalog.now.tables rows others
+        → IsUndamaged error) }
     ensures plan { IfOk result (λ seen. IsPlannedWithin (most_changes catalog.now.tables write.now) seen.planned) }
-    // Over every store, told or not: the row's own pair is among the changes, and a refusal is one that the write can
-    // have.
+    // Over every store, told or not: the row's own pair is among the changes, these are short and remove few pairs, and a
+    // refusal is one that the write can have.
     ensures own { IfOk result (λ seen. ChangesOwn catalog.now.tables write.now seen.planned) }
+    ensures short { IfOk result (λ seen. IsShortWithin seen.planned) }
+    ensures thin { IfOk result (λ seen. RemovesFew write.now seen.planned) }
     ensures can { IfOk result (λ seen. RefusesAs catalog.now.tables write.now seen.planned) }
     ensures answer { IfOk result (λ seen. (rows : Rows) (others : List Pair)
-        → HoldsRows (S.content store.old) catalog.now.tables rows others
+        → HoldsRows (seen_content pending.now.changes (S.content store.old)) catalog.now.tables rows others
         → Plans catalog.now.tables rows others write.now seen.planned) }
-    ensures read { IfOk result (λ seen. IfSome (S.content store.old)
+    ensures read { IfOk result (λ seen. IfSome (seen_content pending.now.changes (S.content store.old))
         (λ c. IsReadFor catalog.now.tables write.now c seen.old)) }
     ensures fits { IfOk result (λ seen. FitsItsTable catalog.now.tables write.now seen.old) }
     ensures new { IfOk result (λ seen. IsNewFor catalog.now.tables write.now seen.old seen.new) }
 {
     catalog.known();
-    let mut calls = Calls {
+    let mut calls = PendingCalls {
+        pending,
         store,
         allowance,
         meter,
@@ -124,7 +140,8 @@ pub fn plan_with_rows<S: Store<L>, L: Ledger>(
     plan_by(alloc, catalog, write, &mut calls)
 }
 
-/// The same without the rows.
+/// The changes that the write makes where none are pending, or its first refusal. It changes nothing in the store, and
+/// leaves enough of the allowance for the changes.
 pub fn plan_write<S: Store<L>, L: Ledger>(
     alloc: Global,
     catalog: &Catalog,
@@ -155,7 +172,8 @@ pub fn plan_write<S: Store<L>, L: Ledger>(
         → HoldsRows (S.content store.old) catalog.now.tables rows others
         → Plans catalog.now.tables rows others write.now planned) }
 {
-    match plan_with_rows(alloc, catalog, write, store, allowance, meter) {
+    let pending = Pending::none(alloc);
+    match plan_with_rows(alloc, catalog, write, &pending, store, allowance, meter) {
         Err(error) => Err(error),
         Ok(seen) => Ok(seen.planned),
     }

@@ -1,6 +1,7 @@
 use Rattle.std.proofs.Common.{List, sym, subst, ◌∙◌}
 use Rattle.pq_row_code.specs.declared.changes.Change.{Change}
 use Rattle.pq_index_keep.proofs.Narrow.{valid_writable}
+use Rattle.pq_pending.specs.Calls.{seen}
 use Rattle.pq_counters.specs.Promises.{MakesCounts}
 use Rattle.pq_counters.proofs.Counting.{nothing_counts}
 use Rattle.pq_counters.proofs.Small.{small_columns, counters_small}
@@ -18,7 +19,7 @@ pub returns-then-all_moves-eq0-clause-answer : goal.returns-then-all_moves-eq0-c
 returns-then-all_moves-eq0-clause-answer g c = λ rows made others s is.
     let schema = c.args.catalog.now in
     subst (λ (l : List Change). MakesCounts schema rows others c.args.write.now made l) (sym c.new.ensures)
-    (nothing_counts (g.S.Store.content c.args.calls.now.store.now) schema rows made others c.args.write.now c.requires.valid c.requires.write s is (sym c.all_moves.ensures.moves ∙ c.if-all_moves-eq0.true))
+    (nothing_counts (seen g.S.Store.content c.args.calls.now) schema rows made others c.args.write.now c.requires.valid c.requires.write s is (sym c.all_moves.ensures.moves ∙ c.if-all_moves-eq0.true))
 
 pub plan_by-requires-clause-share : goal.plan_by-requires-clause-share
 plan_by-requires-clause-share g c = affords_less _ _ _ (moves_read (counters_in c.args.catalog.now) c.args.write.now) c.requires.share

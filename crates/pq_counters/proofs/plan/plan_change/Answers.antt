@@ -3,7 +3,7 @@ use Rattle.std.specs.Prelude.{option_map}
 use Rattle.std.proofs.lemmas.Result.{IfOk-weaker}
 use Rattle.pq_schema.proofs.TypeKinds.{kinds_from_fit}
 use Rattle.pq_schema.specs.Tables.{table_at}
-use Rattle.pq_calls.specs.Calls.{seen_world}
+use Rattle.pq_pending.specs.Calls.{seen_world, seen}
 use Rattle.pq_index_keep.specs.Tested.{with_sets}
 use Rattle.pq_index_keep.specs.declared.write.Write.TheVariants.{Update}
 use Rattle.pq_index_keep.proofs.Updating.{fit_sets}
@@ -43,6 +43,6 @@ returns-clause-answer g c =
     let old = c.args.old.now in
     let new = with_sets c.args.sets.now old in
     IfOk-weaker c.plan_moves.result _ _ (λ planned made rows after others s found is. made rows after others s (sym found) (ap (option_map (with_sets c.args.sets.now)) (sym found)) is)
-    (planned (g.S.Store.content c.args.calls.now.store.now) c.args.catalog.now (Update c.args.table c.args.key.now c.args.sets.now c.args.conds.now) (Some old) (Some new) c.plan_moves.result c.requires.valid c.requires.update
+    (planned (seen g.S.Store.content c.args.calls.now) c.args.catalog.now (Update c.args.table c.args.key.now c.args.sets.now c.args.conds.now) (Some old) (Some new) c.plan_moves.result c.requires.valid c.requires.update
     (record { goes = c.requires.fits; comes = fit_sets table c.args.sets.now old c.requires.update.each c.requires.comes.sums c.requires.fits })
     (rw c.requires.comes.is at c.plan_moves.ensures.answer))

@@ -1,7 +1,7 @@
 use Rattle.std.proofs.Common.{Some, None, refl}
 use Rattle.std.proofs.lemmas.Result.{IfOk-weaker}
 use Rattle.pq_schema.specs.Tables.{table_at}
-use Rattle.pq_calls.specs.Calls.{seen_world}
+use Rattle.pq_pending.specs.Calls.{seen_world, seen}
 use Rattle.pq_content.specs.Tables.{key_of}
 use Rattle.pq_content.proofs.Values.{key_of_kinds}
 use Rattle.pq_index_keep.specs.declared.write.Write.TheVariants.{Insert}
@@ -34,4 +34,4 @@ returns-clause-plan g c = counted_more _ _ (inserts_within c.args.table c.args.r
 pub returns-clause-answer : goal.returns-clause-answer
 returns-clause-answer g c =
     IfOk-weaker c.plan_moves.result _ _ (λ planned made rows after others s is. made rows after others s refl refl is)
-    (planned (g.S.Store.content c.args.calls.now.store.now) c.args.catalog.now (Insert c.args.table c.args.row.now) None (Some c.args.row.now) c.plan_moves.result c.requires.valid c.requires.insert (record { goes = tt; comes = c.requires.insert.fits }) c.plan_moves.ensures.answer)
+    (planned (seen g.S.Store.content c.args.calls.now) c.args.catalog.now (Insert c.args.table c.args.row.now) None (Some c.args.row.now) c.plan_moves.result c.requires.valid c.requires.insert (record { goes = tt; comes = c.requires.insert.fits }) c.plan_moves.ensures.answer)

@@ -1,7 +1,7 @@
 use Rattle.std.proofs.Common.{Some, None, refl, sym}
 use Rattle.std.proofs.lemmas.Result.{IfOk-weaker}
 use Rattle.pq_schema.proofs.TypeKinds.{kinds_from_fit}
-use Rattle.pq_calls.specs.Calls.{seen_world}
+use Rattle.pq_pending.specs.Calls.{seen_world, seen}
 use Rattle.pq_index_keep.specs.declared.write.Write.TheVariants.{Delete}
 use Rattle.pq_tallies.specs.Defined.{counters_in}
 use Rattle.pq_counters.proofs.Moving.{deletes_within}
@@ -30,4 +30,4 @@ returns-clause-plan g c = counted_more _ _ (deletes_within c.args.table c.args.k
 pub returns-clause-answer : goal.returns-clause-answer
 returns-clause-answer g c =
     IfOk-weaker c.plan_moves.result _ _ (λ planned made rows after others s found is. made rows after others s (sym found) refl is)
-    (planned (g.S.Store.content c.args.calls.now.store.now) c.args.catalog.now (Delete c.args.table c.args.key.now c.args.conds.now) (Some c.args.old.now) None c.plan_moves.result c.requires.valid c.requires.delete (record { goes = c.requires.fits; comes = tt }) c.plan_moves.ensures.answer)
+    (planned (seen g.S.Store.content c.args.calls.now) c.args.catalog.now (Delete c.args.table c.args.key.now c.args.conds.now) (Some c.args.old.now) None c.plan_moves.result c.requires.valid c.requires.delete (record { goes = c.requires.fits; comes = tt }) c.plan_moves.ensures.answer)

@@ -1,5 +1,4 @@
 use Rattle.std.proofs.lemmas.Result.{err_from_is_err_and}
-use Rattle.pq_calls.specs.Calls.{seen_world}
 use Rattle.pq_calls.specs.World.{world, where_told}
 use Rattle.pq_calls.proofs.Steps.{explained_undamaged}
 use Rattle.pq_tallies.specs.Counters.{counter_key, tally}
@@ -17,7 +16,7 @@ returns-in_err-group-clause-undamaged g c =
     let counter = counter_numbered schema c.args.number in
     let told = g.S.Store.content c.args.store.now in
     let before = world told (g.S.Store.faults c.args.store.now) c.args.allowance.now c.args.meter.now in
-    let after = seen_world g.S.Store.content g.S.Store.faults c.group_count.new.calls in
+    let after = world (g.S.Store.content c.stored_group.new.store) (g.S.Store.faults c.stored_group.new.store) c.stored_group.new.allowance c.stored_group.new.meter in
     rw (p.1, p.2) (λ rows others s.
     explained_undamaged (where_told (IsNoCount schema.tables counter)) before after c.in_err-group.field-0.0
     (none_counted told schema rows others s c.known.ensures counter (numbered_in schema c.args.number c.requires.number))

@@ -1,23 +1,17 @@
-use Rattle.std.specs.Prelude.{List}
-use Rattle.std.proofs.lemmas.Result.{IfErr-weaker}
-use Rattle.pq_content.specs.Pairs.{Pair}
-use Rattle.pq_content.specs.Tables.{Rows}
-use Rattle.pq_store.specs.Breaks.{IsUndamaged}
-use Rattle.pq_store.specs.declared.damage.Broke.{Broke}
-use Rattle.pq_calls.specs.Calls.{seen_world}
-use Rattle.pq_calls.specs.World.{world, Explains, where_told}
-use Rattle.pq_calls.proofs.Steps.{explained_undamaged}
-use Rattle.pq_tallies.specs.Counters.{HoldsCounted}
-use Rattle.pq_counters.specs.Evidence.{ShowsCounted}
-use Rattle.pq_counters.proofs.Showing.{none_told}
+use Rattle.pq_pending.proofs.Lists.{seen_none}
 use Rattle.pq_counters.proofs.reading.plan_counters.Goals as goal
 
+pub returns-clause-reads : goal.returns-clause-reads
+returns-clause-reads g c = rw (c.none-pending.ensures, seen_none (g.S.Store.content c.args.store.now), seen_none (g.S.Store.content c.plan_behind.new.store)) at c.plan_behind.ensures.reads
+
+pub returns-clause-cause : goal.returns-clause-cause
+returns-clause-cause g c = rw (c.none-pending.ensures, seen_none (g.S.Store.content c.args.store.now), seen_none (g.S.Store.content c.plan_behind.new.store)) at c.plan_behind.ensures.cause
+
+pub returns-clause-answered : goal.returns-clause-answered
+returns-clause-answered g c = rw c.none-pending.ensures at c.plan_behind.ensures.answered
+
 pub returns-clause-undamaged : goal.returns-clause-undamaged
-returns-clause-undamaged g c =
-    let schema = c.args.catalog.now in
-    let before = world (g.S.Store.content c.args.store.now) (g.S.Store.faults c.args.store.now) c.args.allowance.now c.args.meter.now in
-    let after = seen_world g.S.Store.content g.S.Store.faults c.plan_reading.new.calls in
-    IfErr-weaker c.plan_reading.result (Explains (where_told (ShowsCounted schema)) before after)
-    (λ (error : Broke). (rows : Rows) (others : List Pair) → HoldsCounted (g.S.Store.content c.args.store.now) schema rows others → IsUndamaged error)
-    (λ error why rows others s. explained_undamaged (where_told (ShowsCounted schema)) before after error (none_told (g.S.Store.content c.args.store.now) schema rows others s c.known.ensures) why)
-    c.plan_reading.ensures.cause
+returns-clause-undamaged g c = rw (c.none-pending.ensures, seen_none (g.S.Store.content c.args.store.now)) at c.plan_behind.ensures.undamaged
+
+pub returns-clause-answer : goal.returns-clause-answer
+returns-clause-answer g c = rw (c.none-pending.ensures, seen_none (g.S.Store.content c.args.store.now)) at c.plan_behind.ensures.answer

@@ -1,4 +1,4 @@
-use Rattle.pq_calls.specs.Calls.{seen_world}
+use Rattle.pq_pending.specs.Calls.{seen_world}
 use Rattle.pq_calls.proofs.Shown.{no_row_explains}
 use Rattle.pq_counters.proofs.reading.stored_row.Goals as goal
 

@@ -1,8 +1,8 @@
 use Rattle.std.proofs.Common.{ℕ, length, map, take, get_or}
 use Rattle.std.specs.List.{sum_by}
 use Rattle.std.specs.Option.{option_copied}
-use Rattle.pq_calls.specs.Calls.{seen_world}
-use Rattle.pq_calls.proofs.Steps.{share_next, uses_next, uses_stop}
+use Rattle.pq_pending.specs.Calls.{seen_world, seen}
+use Rattle.pq_pending.proofs.Steps.{share_next, uses_next, uses_stop}
 use Rattle.pq_content.specs.Standing.{change_of}
 use Rattle.pq_tallies.specs.Defined.{counter_numbered}
 use Rattle.pq_tallies.proofs.Defined.{numbered_in}
@@ -55,7 +55,7 @@ returns-in-Some-clause-answer g c = λ rows others s is.
     let so_far : ℕ = sum_by (moves_at schema c.args.table old new) (take i numbers) in
     let here = number_here schema c.args.table old new numbers i n c.loop-number-test.true at c.requires.numbers in
     let later = counted_later (seen_world g.S.Store.content g.S.Store.faults c.args.calls.now) (seen_world g.S.Store.content g.S.Store.faults c.loop-number.calls) so_far so_far schema rows others c.loop-number.invariant.uses.reads s in
-    let tells = tells_move (g.S.Store.content c.loop-number.calls.store.now) schema rows others c.args.table old new (counter_numbered schema n) c.known.ensures later (numbered_in schema n here) is in
+    let tells = tells_move (seen g.S.Store.content c.loop-number.calls) schema rows others c.args.table old new (counter_numbered schema n) c.known.ensures later (numbered_in schema n here) is in
     moved_last schema c.args.table old new numbers i n c.loop-number-test.true at rows
     (map change_of c.loop-number.changes) (map change_of c.plan_numbered.new.changes) c.in_ok-full.full c.in-Some.why (c.in_ok-full.ensures.answer rows tells) c.in-Some.is c.in_ok-full.ensures.full (c.loop-number.invariant.answer rows others s is).1
 
@@ -77,7 +77,7 @@ loop-number-preserved g c =
       each = c.in_ok-full.ensures.each c.loop-number.invariant.each;
       answer = λ rows others s is.
           let later = counted_later (seen_world g.S.Store.content g.S.Store.faults c.args.calls.now) (seen_world g.S.Store.content g.S.Store.faults c.loop-number.calls) so_far so_far schema rows others c.loop-number.invariant.uses.reads s in
-          let tells = tells_move (g.S.Store.content c.loop-number.calls.store.now) schema rows others c.args.table old new (counter_numbered schema n) c.known.ensures later (numbered_in schema n here) is in
+          let tells = tells_move (seen g.S.Store.content c.loop-number.calls) schema rows others c.args.table old new (counter_numbered schema n) c.known.ensures later (numbered_in schema n here) is in
           moved_next schema c.args.table old new numbers i n c.loop-number-test.true at rows
           (map change_of c.loop-number.changes) (map change_of c.plan_numbered.new.changes) c.in_ok-full.full (c.in_ok-full.ensures.answer rows tells) c.in_default.is (c.loop-number.invariant.answer rows others s is);
     }

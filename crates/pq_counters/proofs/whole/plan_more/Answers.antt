@@ -1,5 +1,8 @@
 use Rattle.std.proofs.Common.{subst}
 use Rattle.pq_tallies.specs.Defined.{counters_in}
+use Rattle.pq_index_keep.specs.Bounds.{removers_of}
+use Rattle.pq_index_keep.specs.declared.plan.Planned.TheVariants.{Changes}
+use Rattle.pq_counters.proofs.Short.{all_short, removes_same}
 use Rattle.pq_counters.specs.Bounds.{all_moves}
 use Rattle.pq_counters.specs.Promises.{Counts, IsCountedWithin}
 use Rattle.pq_counters.proofs.Joining.{are_whole, full_refused, whole_made}
@@ -25,3 +28,13 @@ returns-in-Ok-clause-answer g c = λ rows made others s is makes.
     let w = c.args.write.now in
     whole_made schema rows others w made c.args.changes c.in-Ok-Changes.more c.in-Ok.all is makes
     (subst (Counts schema rows others w made) c.in-Ok-Changes.field-0-is (c.in-Ok-Changes.ensures.answer rows made others s is)) c.in-Ok.ensures
+
+pub returns-in-Ok-clause-short : goal.returns-in-Ok-clause-short
+returns-in-Ok-clause-short g c =
+    let counted : IsCountedWithin (all_moves (counters_in c.args.catalog.now) c.args.write.now) (Changes c.in-Ok-Changes.more) = subst (IsCountedWithin (all_moves (counters_in c.args.catalog.now) c.args.write.now)) c.in-Ok-Changes.field-0-is c.in-Ok-Changes.ensures.plan in
+    all_short c.args.changes c.in-Ok-Changes.more c.in-Ok.all c.requires.short counted.each c.in-Ok.ensures
+
+pub returns-in-Ok-clause-thin : goal.returns-in-Ok-clause-thin
+returns-in-Ok-clause-thin g c =
+    let counted : IsCountedWithin (all_moves (counters_in c.args.catalog.now) c.args.write.now) (Changes c.in-Ok-Changes.more) = subst (IsCountedWithin (all_moves (counters_in c.args.catalog.now) c.args.write.now)) c.in-Ok-Changes.field-0-is c.in-Ok-Changes.ensures.plan in
+    removes_same (removers_of c.args.write.now) c.args.changes c.in-Ok-Changes.more c.in-Ok.all c.requires.thin counted.each c.in-Ok.ensures

@@ -6,7 +6,7 @@ use Rattle.pq_index_keep.specs.Bounds.{one_if}
 use Rattle.pq_index_keep.specs.Effects.{lacks_parent}
 use Rattle.pq_index_keep.specs.Tested.{touches}
 use Rattle.pq_index_keep.specs.declared.write.Scope.{Scope}
-use Rattle.pq_calls.proofs.Steps.{share_next, uses_stop}
+use Rattle.pq_pending.proofs.Steps.{share_next, uses_stop}
 use Rattle.pq_index_keep.proofs.Steps.{position_here, item_has, settled_later}
 use Rattle.pq_index_keep.proofs.parents.first_lacking.Goals as goal
 

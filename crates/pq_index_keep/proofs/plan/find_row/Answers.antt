@@ -1,5 +1,5 @@
 use Rattle.std.specs.Prelude.{option_map}
-use Rattle.pq_calls.specs.Calls.{seen_world}
+use Rattle.pq_pending.specs.Calls.{seen_world}
 use Rattle.pq_calls.specs.declared.rows.StoredRow.{StoredRow}
 use Rattle.pq_calls.proofs.Shown.{no_row_explains}
 use Rattle.pq_index_keep.proofs.Deleting.{told_row}

@@ -9,6 +9,10 @@ use Rattle.pq_schema.specs.declared.table.Table.{Table}
 use Rattle.pq_index_keep.specs.Refusals.{IsInsertRefusal}
 use Rattle.pq_index_keep.specs.declared.write.Write.TheVariants.{Insert}
 use Rattle.pq_index_keep.proofs.Refusing.{found_can}
+use Rattle.pq_content.specs.Pairs.{pairs_of_row}
+use Rattle.pq_index_keep.proofs.Removing.{puts_remove}
+use Rattle.pq_index_keep.proofs.Shortened.{insert_short}
+use Rattle.pq_pending.specs.Pending.{RemovesAtMost}
 use Rattle.pq_index_keep.proofs.plan.plan_insert.Goals as goal
 
 pub puts-requires-clause-columns : goal.puts-requires-clause-columns
@@ -49,3 +53,13 @@ pub returns-in-Some-clause-can : goal.returns-in-Some-clause-can
 returns-in-Some-clause-can g c =
     found_can c.args.catalog.now.tables (Insert c.args.number c.args.row.now) c.in_ok-refusal.refusal c.in-Some.refusal c.in-Some.is
     (subst (λ (t : Table). IfSome c.in_ok-refusal.refusal (IsInsertRefusal t)) c.table_of-table.ensures.table c.in_ok-refusal.ensures.can)
+
+pub returns-in_ok-changes-in-None-clause-short : goal.returns-in_ok-changes-in-None-clause-short
+returns-in_ok-changes-in-None-clause-short g c =
+    let tables = c.args.catalog.now.tables in
+    insert_short tables (table_at tables c.args.number) (writable_at tables c.args.number c.requires.sound c.requires.insert.number) c.args.number c.args.row.now c.requires.insert.fits _ c.requires.insert.short
+    (rw (← c.table_of-table.ensures.table) (own_puts c.args.number c.table_of-table.result.now c.args.row.now c.in_ok-at.at _ c.in_ok-at.ensures c.in_ok-changes-in-None.ensures))
+
+pub returns-in_ok-changes-in-None-clause-thin : goal.returns-in_ok-changes-in-None-clause-thin
+returns-in_ok-changes-in-None-clause-thin g c =
+    subst (RemovesAtMost 0) (sym (own_puts c.args.number c.table_of-table.result.now c.args.row.now c.in_ok-at.at _ c.in_ok-at.ensures c.in_ok-changes-in-None.ensures)) (puts_remove (pairs_of_row c.args.number c.table_of-table.result.now c.args.row.now))

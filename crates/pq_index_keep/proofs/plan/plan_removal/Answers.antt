@@ -1,4 +1,4 @@
-use Rattle.std.proofs.Common.{◌∙◌, sym, List, subst}
+use Rattle.std.proofs.Common.{◌∙◌, ℕ, sym, List, ◌∷◌, None, subst}
 use Rattle.pq_schema.specs.Tables.{table_at}
 use Rattle.pq_schema.proofs.TypeKinds.{kinds_from_fit}
 use Rattle.pq_index_keep.proofs.Changing.{own_removal}
@@ -10,6 +10,10 @@ use Rattle.pq_schema.specs.declared.table.Table.{Table}
 use Rattle.pq_index_keep.specs.Refusals.{IsDeleteRefusal}
 use Rattle.pq_index_keep.specs.declared.write.Write.TheVariants.{Delete}
 use Rattle.pq_index_keep.proofs.Refusing.{deletes_can, found_can}
+use Rattle.pq_content.specs.Pairs.{removals, entries_from}
+use Rattle.pq_index_keep.proofs.Removing.{removal_removes}
+use Rattle.pq_index_keep.proofs.Shortened.{delete_short}
+use Rattle.pq_pending.specs.Pending.{RemovesAtMost}
 use Rattle.pq_index_keep.proofs.plan.plan_removal.Goals as goal
 
 pub child_refusal-requires-clause-may : goal.child_refusal-requires-clause-may
@@ -42,3 +46,14 @@ returns-in-Some-clause-can g c = λ conds.
     let tables = c.args.catalog.now.tables in
     found_can tables (Delete c.args.number c.args.key.now conds) c.in_ok-refusal.refusal c.in-Some.refusal c.in-Some.is
     (deletes_can tables c.args.number c.args.key.now conds c.in_ok-refusal.refusal (subst (λ (ts : List Table). IfSome c.in_ok-refusal.refusal (IsDeleteRefusal ts)) c.tables-tables.ensures.tables c.in_ok-refusal.ensures.can))
+
+pub returns-in_ok-changes-in-None-clause-short : goal.returns-in_ok-changes-in-None-clause-short
+returns-in_ok-changes-in-None-clause-short g c =
+    let tables = c.args.catalog.now.tables in
+    delete_short tables (table_at tables c.args.number) (writable_at tables c.args.number c.requires.sound c.requires.number) c.args.number c.args.row.now c.requires.fits c.args.key.now c.args.at c.requires.key_fits c.requires.at _
+    (rw (← c.table_of-table.ensures.table) c.in_ok-changes-in-None.ensures)
+
+pub returns-in_ok-changes-in-None-clause-thin : goal.returns-in_ok-changes-in-None-clause-thin
+returns-in_ok-changes-in-None-clause-thin g c = λ conds.
+    let table = c.table_of-table.result.now in
+    subst (RemovesAtMost 1) (sym c.in_ok-changes-in-None.ensures) (subst (λ (at : List ℕ). RemovesAtMost 1 ((at, None) ∷ removals (entries_from c.args.number 1 table table.indexes c.args.row.now))) (sym c.requires.at) (removal_removes c.args.number table table.indexes c.args.key.now c.args.row.now))

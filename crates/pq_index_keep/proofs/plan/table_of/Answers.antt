@@ -15,6 +15,7 @@ returns c =
       columns = foreign_columns tables c.table.result.now w;
       few = w.made.few_foreign;
       access = w.made.limit_groups;
+      some_rows = λ k limit less. (w.made.limits k limit less).from_one;
       key = is_table.key;
       parts = is_table.indexes;
       few_indexes = w.made.few_indexes;

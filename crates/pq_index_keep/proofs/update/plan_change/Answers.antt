@@ -13,6 +13,11 @@ use Rattle.pq_schema.specs.declared.table.Table.{Table}
 use Rattle.pq_index_keep.specs.Refusals.{IsUpdateRefusal}
 use Rattle.pq_index_keep.specs.declared.write.Write.TheVariants.{Update}
 use Rattle.pq_index_keep.proofs.Refusing.{found_can, updates_can}
+use Rattle.pq_content.specs.Tables.{stored_code}
+use Rattle.std.proofs.Common.{◌≤◌, length}
+use Rattle.pq_index_keep.proofs.Removing.{update_removes}
+use Rattle.pq_index_keep.proofs.Shortened.{update_short, none_short}
+use Rattle.pq_pending.specs.Pending.{RemovesAtMost}
 use Rattle.pq_index_keep.proofs.update.plan_change.Goals as goal
 
 pub scope_of-scope-requires : goal.scope_of-scope-requires
@@ -84,3 +89,18 @@ returns-in-Some-clause-can g c = λ conds.
     let tables = c.args.catalog.now.tables in
     found_can tables (Update c.args.number c.args.key.now c.args.sets.now conds) c.in_ok-refusal.refusal c.in-Some.refusal c.in-Some.is
     (updates_can tables c.args.number c.args.key.now c.args.sets.now conds c.in_ok-refusal.refusal (subst (λ (t : Table). IfSome c.in_ok-refusal.refusal (IsUpdateRefusal t)) c.table_of-table.ensures.table c.in_ok-refusal.ensures.can))
+
+pub returns-in_ok-changes-in-None-clause-short : goal.returns-in_ok-changes-in-None-clause-short
+returns-in_ok-changes-in-None-clause-short g c =
+    let tables = c.args.catalog.now.tables in
+    let table = table_at tables c.args.number in
+    let new = with_sets c.args.sets.now c.args.row.now in
+    let fits = fit_sets table c.args.sets.now c.args.row.now c.requires.each c.requires.sums c.requires.fits in
+    let value : length (stored_code table new) ≤ 4096 = rw (← c.table_of-table.ensures.table, ← c.requires.new) (none_short c.in_ok-refusal.refusal _ c.in-None.is c.in_ok-refusal.ensures.short) in
+    update_short tables table (writable_at tables c.args.number c.requires.sound c.requires.number) c.args.number c.args.row.now c.requires.fits new fits c.args.key.now c.args.at c.requires.key_fits c.requires.at value _
+    (rw (← c.table_of-table.ensures.table, ← c.requires.new) c.in_ok-changes-in-None.ensures)
+
+pub returns-in_ok-changes-in-None-clause-thin : goal.returns-in_ok-changes-in-None-clause-thin
+returns-in_ok-changes-in-None-clause-thin g c = λ conds.
+    let table = c.table_of-table.result.now in
+    subst (RemovesAtMost 1) (sym c.in_ok-changes-in-None.ensures) (update_removes c.args.number table table.indexes c.args.at (stored_code table c.args.new.now) c.args.row.now c.args.new.now)

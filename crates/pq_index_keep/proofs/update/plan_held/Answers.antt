@@ -25,3 +25,6 @@ returns-in-Ok-clause-own g c = c.in-Ok.ensures.own c.args.conds.now
 
 pub returns-in-Ok-clause-can : goal.returns-in-Ok-clause-can
 returns-in-Ok-clause-can g c = c.in-Ok.ensures.can c.args.conds.now
+
+pub returns-in-Ok-clause-thin : goal.returns-in-Ok-clause-thin
+returns-in-Ok-clause-thin g c = c.in-Ok.ensures.thin c.args.conds.now

@@ -1,0 +1,37 @@
+-- What a call sees of a store with changes that are not made yet, and what it makes of that.
+use Rattle.std.specs.Prelude.{◌≡◌, ℕ, List, Option}
+use Rattle.pq_store.specs.Content.{Content}
+use Rattle.pq_store.specs.declared.damage.Broke.{Broke}
+use Rattle.pq_store.specs.declared.damage.Damage.{Damage}
+use Rattle.pq_calls.specs.World.{World, world, Reads, Explains}
+use Rattle.pq_pending.specs.Pending.{seen_content, seen_answers}
+use Rattle.pq_pending.specs.declared.calls.PendingCalls.{PendingCalls}
+
+-- the store's content with the changes made
+abbrev pub seen : {S L : Type 0} → (S → Option Content) → PendingCalls S L → Option Content
+seen content calls = seen_content calls.pending.now.changes (content calls.store.now)
+
+-- what a call may answer for a key
+abbrev pub answers_of : {S L : Type 0} → (List ℕ → Option (List ℕ) → Type 0) → PendingCalls S L → List ℕ
+    → Option (List ℕ) → Type 0
+answers_of answers calls = seen_answers answers calls.pending.now.changes
+
+abbrev pub seen_world : {S L : Type 0} → (S → Option Content) → (S → ℕ) → PendingCalls S L → World
+seen_world content faults calls =
+    world (seen content calls) (faults calls.store.now) calls.allowance.now calls.meter.now
+
+-- they are the same changes, store, allowance and meter, and at most so much was read
+pub record Uses {S L : Type 0} (content : S → Option Content) (faults : S
+    → ℕ) (before after : PendingCalls S L) (ops entries : ℕ) : Type 0 where
+  pub same_pending : after.pending ≡ before.pending
+  pub same_store : after.store.ghost_name ≡ before.store.ghost_name
+  pub same_allowance : after.allowance.ghost_name ≡ before.allowance.ghost_name
+  pub same_meter : after.meter.ghost_name ≡ before.meter.ghost_name
+  pub same_content : content after.store.now ≡ content before.store.now
+  pub reads : Reads (seen_world content faults before) (seen_world content faults after) ops entries
+
+-- why a call gives up
+abbrev pub Fails : (Option Content → Damage → Type 0) → {S L : Type 0} → (S → Option Content) → (S → ℕ)
+    → PendingCalls S L → PendingCalls S L → Broke → Type 0
+Fails shows content faults before after error =
+    Explains shows (seen_world content faults before) (seen_world content faults after) error
