@@ -58,6 +58,7 @@ fn put_texts(alloc: Global, cells: &Cells, out: &mut Bytes) -> Result<(), NoMem>
         "feed" => texts::put_feed(alloc, cells, out),
         "print_row" => reports::row(alloc, cells, out),
         "refusal" => reports::refusal(alloc, cells, out),
+        "in_batch" => reports::in_batch(alloc, cells, out),
         "value_kind" => reports::value_kind(alloc, cells, out),
         "lines" => reports::lines(alloc, cells, out),
         "page" => reports::page(alloc, cells, out),

@@ -23,7 +23,7 @@ fn plain_refusal(what: &str) -> Option<Refusal> {
         "first_count" => Some(Refusal::Count { word: 0 }),
         "third_count" => Some(Refusal::Count { word: 2 }),
         "eighth_count" => Some(Refusal::Count { word: 7 }),
-        "last_count" => Some(Refusal::Count { word: 15 }),
+        "last_count" => Some(Refusal::Count { word: 16 }),
         "operand_kind" => Some(Refusal::OperandKind { pred: 16 }),
         "params" => Some(Refusal::Params),
         "bound_large" => Some(Refusal::BoundLarge {
@@ -33,6 +33,7 @@ fn plain_refusal(what: &str) -> Option<Refusal> {
         "param_value" => Some(Refusal::ParamValue { number: 0 }),
         "cursor" => Some(Refusal::Cursor),
         "not_paged" => Some(Refusal::NotPaged),
+        "batch_long" => Some(Refusal::BatchLong { length: 1048577 }),
         _ => None,
     }
 }
@@ -121,6 +122,13 @@ fn refusal_of(alloc: Global, what: &str, name: &[u8]) -> Result<Refusal, NoMem> 
 pub fn refusal(alloc: Global, cells: &Cells, out: &mut Bytes) -> Result<(), NoMem> {
     let refusal = refusal_of(alloc, cells.what, cells.text(0))?;
     put_refusal(alloc, refusal, out)
+}
+
+/// The report of a batch whose write of this number is refused; the refusal names the first text.
+pub fn in_batch(alloc: Global, cells: &Cells, out: &mut Bytes) -> Result<(), NoMem> {
+    let cause = refusal_of(alloc, cells.what, cells.text(0))?;
+    let place = cells.number(0).min(65535) as u16;
+    put_made(alloc, List::new(alloc), End::InBatch { place, cause }, out)
 }
 
 /// The report of the refusal that names a table and a column.

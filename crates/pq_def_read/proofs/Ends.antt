@@ -1,19 +1,14 @@
 -- What takes a token at least.
-use Rattle.std.proofs.Common.{ℕ, is_some}
+use Rattle.std.proofs.Common.{is_some}
 use Rattle.pq_grammar.specs.Reader.{pair_at, skip_at, test_of}
-use Rattle.pq_grammar.specs.Shrinking.{Shrinks, Keeps, token_shrinks, shrinks_keeps, pair_shrinks, pair_keeps, option_keeps, close_shrinks, skip_shrinks, map_shrinks, map_keeps, choice_keeps, choice_shrinks, separated_shrinks}
-use Rattle.pq_shape.specs.Front.{is_word_shape, is_mark_shape, is_soft_shape, soft_at, word_at, mark_at, name_of, name_at, number_in, number_at}
+use Rattle.pq_grammar.specs.Shrinking.{Shrinks, Keeps, token_shrinks, shrinks_keeps, pair_shrinks, pair_keeps, option_keeps, close_shrinks, skip_shrinks, map_shrinks, map_keeps, choice_keeps, choice_shrinks}
+use Rattle.pq_shape.specs.Front.{is_word_shape, is_soft_shape, soft_at, word_at, mark_at, name_of, name_at, number_in, number_at}
 use Rattle.pq_shape.specs.declared.soft.Soft.TheVariants as soft_word
 use Rattle.pq_shape.specs.declared.keyword.TheConstants.{BOOL, CARDINALITY, FOREIGN, INT, KEY, LIMIT, REFERENCES, TEXT}
 use Rattle.pq_shape.specs.declared.mark.TheConstants.{CLOSE, COMMA, OPEN}
+use Rattle.pq_def_read.specs.Shrinking.{word_shrinks, mark_shrinks, cols_shrinks}
 use Rattle.pq_def_read.specs.declared.definition.Constraint.TheVariants as constraint
-use Rattle.pq_def_read.specs.Definitions.{text_kind, int_kind, bool_kind, text_kind_at, kind_at, nullable_at, column_at, ended_column_at, names_at, cols_at, limit_clause_at, foreign_at, constraint_at, next_constraint_at}
-
-word_shrinks : (k : ℕ) → Shrinks (word_at k)
-word_shrinks k = token_shrinks (test_of (is_word_shape k))
-
-mark_shrinks : (k : ℕ) → Shrinks (mark_at k)
-mark_shrinks k = token_shrinks (test_of (is_mark_shape k))
+use Rattle.pq_def_read.specs.Definitions.{text_kind, int_kind, bool_kind, text_kind_at, kind_at, nullable_at, column_at, ended_column_at, cols_at, limit_clause_at, foreign_at, constraint_at, next_constraint_at}
 
 text_kind_keeps : Keeps text_kind_at
 unfolding text_kind_at
@@ -38,12 +33,6 @@ column_shrinks = map_shrinks _ (pair_at name_at (pair_at kind_at nullable_at)) (
 
 pub ended_column_shrinks : Shrinks ended_column_at
 ended_column_shrinks = close_shrinks column_at (mark_at COMMA) column_shrinks (shrinks_keeps _ (mark_shrinks COMMA))
-
-cols_shrinks : Shrinks cols_at
-unfolding cols_at names_at
-cols_shrinks =
-    skip_shrinks (mark_at OPEN) _ (mark_shrinks OPEN)
-    (shrinks_keeps _ (close_shrinks _ (mark_at CLOSE) (separated_shrinks (is_mark_shape COMMA) (mark_at COMMA) name_at (token_shrinks name_of) (mark_shrinks COMMA)) (shrinks_keeps _ (mark_shrinks CLOSE))))
 
 limit_shrinks : Shrinks limit_clause_at
 unfolding limit_clause_at

@@ -18,15 +18,15 @@ use Rattle.pq_shape.specs.declared.shape.Shape.TheVariants as shape
 use Rattle.pq_shape.specs.declared.keyword.TheConstants.{AFTER, AS, CREATE, DELETE, EXPLAIN, INSERT, PREPARE, RUN, SELECT, SHOW, TABLE, UPDATE}
 use Rattle.pq_shape.specs.declared.mark.TheConstants.{CLOSE, COMMA, OPEN, SEMICOLON}
 use Rattle.pq_def_read.specs.Definitions.{table_definition_at, counter_definition_at, alter_at, statement_end_at}
-use Rattle.pq_def_read.specs.Grammar.{alter, write, arguments, cursor, run, read, Spells}
-use Rattle.pq_def_read.specs.Reading.{create_statement_at, written_at, prepare_at, explain_at, select_at, listed_values_at, arguments_at, after_at, run_at, read_counter_at, show_at, statement_at}
-use Rattle.pq_def_read.specs.Writes.{values_clause_at, write_at}
+use Rattle.pq_def_read.specs.Grammar.{alter, write, batch, arguments, cursor, run, read, Spells}
+use Rattle.pq_def_read.specs.Reading.{create_statement_at, written_at, batch_at, prepare_at, explain_at, select_at, listed_values_at, arguments_at, after_at, run_at, read_counter_at, show_at, statement_at}
+use Rattle.pq_def_read.specs.Writes.{values_clause_at, write_at, writes_at}
 use Rattle.pq_def_read.specs.declared.statement.Statement.{Statement}
-use Rattle.pq_def_read.specs.declared.statement.Statement.TheVariants.{Create, Write, Prepare, Explain, Run, Alter, Counter, Read, Show, Select}
+use Rattle.pq_def_read.specs.declared.statement.Statement.TheVariants.{Create, Write, Batch, Prepare, Explain, Run, Alter, Counter, Read, Show, Select}
 use Rattle.pq_def_read.specs.declared.write.WriteDef.{WriteDef}
 use Rattle.pq_def_read.proofs.Conditions.{maybe_to, maybe_from, is_row_more}
 use Rattle.pq_def_read.proofs.Tables.{stop, stop_reads, stop_shuts, table_definition, table_definition_reads, counter_definition, counter_definition_reads, alter_reads}
-use Rattle.pq_def_read.proofs.WriteForms.{values_reads, write_reads, write_shuts}
+use Rattle.pq_def_read.proofs.WriteForms.{values_reads, write_reads, write_shuts, is_writes_more, writes_reads}
 
 -- ---- CREATE
 
@@ -64,6 +64,15 @@ unfolding written_at is_word_shape is_soft_shape
 written_reads =
     made_reads (λ x. Write x) written never _
     (close_reads write (mark SEMICOLON) is_row_more never write_at (mark_at SEMICOLON) write_reads (mark_reads SEMICOLON) (λ v rest h e. one_shuts is_row_more (shape.Mark SEMICOLON) refl v rest h))
+
+-- ---- BATCH
+
+batch_reads : Reads (made_from (λ xs. Batch xs) batch) never batch_at
+unfolding batch_at is_word_shape is_mark_shape is_soft_shape
+batch_reads =
+    made_reads (λ xs. Batch xs) batch never _
+    (skip_free (soft soft_word.Batch) (λ xs. separated_by comma write xs ⋅ mark SEMICOLON) never (soft_at soft_word.Batch) _ (soft_reads soft_word.Batch)
+    (close_reads (separated_by comma write) (mark SEMICOLON) is_writes_more never writes_at (mark_at SEMICOLON) writes_reads (mark_reads SEMICOLON) (λ v rest h e. one_shuts is_writes_more (shape.Mark SEMICOLON) refl v rest h)))
 
 -- ---- the heads of PREPARE, EXPLAIN and SELECT
 
@@ -202,8 +211,14 @@ a_read = made_from (λ (x : Tallied). Read x.0 x.1) tallies
 abbrev a_write : Form
 a_write = made_from (λ x. Write x) written
 
+abbrev a_batch : Form
+a_batch = made_from (λ xs. Batch xs) batch
+
+abbrev from_batch : Form
+from_batch = one_or_other a_batch a_write
+
 abbrev from_read : Form
-from_read = one_or_other a_read a_write
+from_read = one_or_other a_read from_batch
 
 abbrev from_alter : Form
 from_alter = one_or_other a_alter from_read
@@ -232,8 +247,11 @@ from_create = one_or_other a_create from_prepare
 abbrev write_firsts : List Shape
 write_firsts = shape.Keyword INSERT ∷ shape.Keyword UPDATE ∷ shape.Keyword DELETE ∷ []
 
+abbrev batch_firsts : List Shape
+batch_firsts = shape.Name (soft_name soft_word.Batch) ∷ write_firsts
+
 abbrev read_firsts : List Shape
-read_firsts = shape.Name (soft_name soft_word.Read) ∷ write_firsts
+read_firsts = shape.Name (soft_name soft_word.Read) ∷ batch_firsts
 
 abbrev alter_firsts : List Shape
 alter_firsts = shape.Name (soft_name soft_word.Alter) ∷ read_firsts
@@ -273,8 +291,11 @@ writes_shut p e s w rest h =
     let x = h.2 in
     ap (λ (v : List Shape). begins p (v ++ rest)) x.parts ∙ ap (begins p) (append_assoc x.front x.back rest) ∙ write_shuts p i.0 u.0 d.0 h.0 x.front (x.back ++ rest) x.fits_front
 
+batches_shut : (p : Shape → Bool) → list_any p batch_firsts ≡ false → Shuts p from_batch
+batches_shut p = or_shuts p a_batch a_write (shape.Name (soft_name soft_word.Batch)) write_firsts (λ e s w rest h. then_shuts p (shape.Name (soft_name soft_word.Batch)) _ e w rest h.2) (writes_shut p)
+
 reads_shut : (p : Shape → Bool) → list_any p read_firsts ≡ false → Shuts p from_read
-reads_shut p = or_shuts p a_read a_write (shape.Name (soft_name soft_word.Read)) write_firsts (λ e s w rest h. then_shuts p (shape.Name (soft_name soft_word.Read)) _ e w rest h.2) (writes_shut p)
+reads_shut p = or_shuts p a_read from_batch (shape.Name (soft_name soft_word.Read)) batch_firsts (λ e s w rest h. then_shuts p (shape.Name (soft_name soft_word.Read)) _ e w rest h.2) (batches_shut p)
 
 alters_shut : (p : Shape → Bool) → list_any p alter_firsts ≡ false → Shuts p from_alter
 alters_shut p = or_shuts p a_alter from_read (shape.Name (soft_name soft_word.Alter)) read_firsts (λ e s w rest h. then_shuts p (shape.Name (soft_name soft_word.Alter)) _ e w rest h.2) (reads_shut p)
@@ -305,7 +326,8 @@ statement_to s w (inr (inr (inr (inr (inl h))))) = subst (λ (v : Statement). Sp
 statement_to s w (inr (inr (inr (inr (inr (inl h)))))) = subst (λ (v : Statement). Spells v w) h.1 h.2
 statement_to s w (inr (inr (inr (inr (inr (inr (inl h))))))) = subst (λ (v : Statement). Spells v w) h.1 h.2
 statement_to s w (inr (inr (inr (inr (inr (inr (inr (inl h)))))))) = subst (λ (v : Statement). Spells v w) h.1 h.2
-statement_to s w (inr (inr (inr (inr (inr (inr (inr (inr h)))))))) = subst (λ (v : Statement). Spells v w) h.1 h.2
+statement_to s w (inr (inr (inr (inr (inr (inr (inr (inr (inl h))))))))) = subst (λ (v : Statement). Spells v w) h.1 h.2
+statement_to s w (inr (inr (inr (inr (inr (inr (inr (inr (inr h))))))))) = subst (λ (v : Statement). Spells v w) h.1 h.2
 
 statement_from : (s : Statement) (w : List Shape) → Spells s w → from_create s w
 statement_from (Create d) w h = inl (record { front = h.front; back = h.back; fits_front = h.fits_front; fits_back = inl (d, refl, h.fits_back); parts = h.parts })
@@ -317,7 +339,8 @@ statement_from Select w h = inr (inr (inr (inr (inl (tt, refl, h)))))
 statement_from Show w h = inr (inr (inr (inr (inr (inl (tt, refl, h))))))
 statement_from (Alter d) w h = inr (inr (inr (inr (inr (inr (inl (d, refl, h)))))))
 statement_from (Read n vs) w h = inr (inr (inr (inr (inr (inr (inr (inl ((n, vs), refl, h))))))))
-statement_from (Write x) w h = inr (inr (inr (inr (inr (inr (inr (inr (x, refl, h))))))))
+statement_from (Batch xs) w h = inr (inr (inr (inr (inr (inr (inr (inr (inl (xs, refl, h)))))))))
+statement_from (Write x) w h = inr (inr (inr (inr (inr (inr (inr (inr (inr (x, refl, h)))))))))
 
 wide : (S : Form) (r : Reader Shape Statement) → Reads S never r → Reads S always r
 wide S r h = wider_reads S never always r (λ rest e. begins-never rest) h
@@ -333,8 +356,10 @@ statement_reads =
     (choice_reads a_select from_show (is_word_shape SELECT) select_at _ always select_reads
     (choice_reads a_show from_alter (is_word_shape SHOW) show_at _ always (wide a_show show_at show_reads)
     (choice_reads a_alter from_read (is_soft_shape soft_word.Alter) (map_at (λ d. Alter d) alter_at) _ always (wide a_alter (map_at (λ d. Alter d) alter_at) (made_reads (λ d. Alter d) alter never alter_at alter_reads))
-    (choice_reads a_read a_write (is_soft_shape soft_word.Read) read_counter_at written_at always (wide a_read read_counter_at read_reads) (wide a_write written_at written_reads)
-    (λ s w h. then_opens (is_soft_shape soft_word.Read) (shape.Name (soft_name soft_word.Read)) _ (soft_passes soft_word.Read) w h.2) (λ s w rest h e. writes_shut (is_soft_shape soft_word.Read) refl s w rest h))
+    (choice_reads a_read from_batch (is_soft_shape soft_word.Read) read_counter_at _ always (wide a_read read_counter_at read_reads)
+    (choice_reads a_batch a_write (is_soft_shape soft_word.Batch) batch_at written_at always (wide a_batch batch_at batch_reads) (wide a_write written_at written_reads)
+    (λ s w h. then_opens (is_soft_shape soft_word.Batch) (shape.Name (soft_name soft_word.Batch)) _ (soft_passes soft_word.Batch) w h.2) (λ s w rest h e. writes_shut (is_soft_shape soft_word.Batch) refl s w rest h))
+    (λ s w h. then_opens (is_soft_shape soft_word.Read) (shape.Name (soft_name soft_word.Read)) _ (soft_passes soft_word.Read) w h.2) (λ s w rest h e. batches_shut (is_soft_shape soft_word.Read) refl s w rest h))
     (λ s w h. then_opens (is_soft_shape soft_word.Alter) (shape.Name (soft_name soft_word.Alter)) _ (soft_passes soft_word.Alter) w h.2) (λ s w rest h e. reads_shut (is_soft_shape soft_word.Alter) refl s w rest h))
     (λ s w h. then_opens (is_word_shape SHOW) (shape.Keyword SHOW) _ refl w h.2) (λ s w rest h e. alters_shut (is_word_shape SHOW) refl s w rest h))
     (λ s w h. then_opens (is_word_shape SELECT) (shape.Keyword SELECT) anything refl w h.2) (λ s w rest h e. shows_shut (is_word_shape SELECT) refl s w rest h))

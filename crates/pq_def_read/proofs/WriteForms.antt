@@ -1,14 +1,14 @@
 -- The reader of writes reads what the grammar says.
-use Rattle.std.proofs.Common.{◌≡◌, ℕ, Bool, false, List, ◌++◌, Option, inl, inr, refl, subst}
+use Rattle.std.proofs.Common.{◌≡◌, ℕ, Bool, true, false, List, ◌++◌, Option, inl, inr, refl, subst}
 use Rattle.pq_base.specs.declared.value.Value.{Value}
 use Rattle.pq_grammar.specs.Language.{◌⋅◌, optional, separated_by, made_from}
 use Rattle.pq_grammar.specs.Reader.{begins, pair_at, option_at}
 use Rattle.pq_grammar.proofs.Steps.{Reads, never, begins-never, wider_reads}
 use Rattle.pq_grammar.proofs.Readers.{pair_reads, close_reads}
 use Rattle.pq_grammar.proofs.Options.{option_reads}
-use Rattle.pq_grammar.proofs.Lists.{then_opens, one_shuts, then_shuts, pair_free, skip_free, same_set}
-use Rattle.pq_grammar.proofs.Choices.{made_reads, choice_reads, one_or_other}
-use Rattle.pq_shape.specs.Front.{is_word_shape, is_mark_shape, word_at, mark_at, name_at}
+use Rattle.pq_grammar.proofs.Lists.{one_opens, then_opens, one_shuts, then_shuts, pair_free, skip_free, same_set, separated_reads}
+use Rattle.pq_grammar.proofs.Choices.{made_reads, choice_reads, any_of, not_first, not_second, one_or_other}
+use Rattle.pq_shape.specs.Front.{is_word_shape, is_mark_shape, is_soft_shape, word_at, mark_at, name_at}
 use Rattle.pq_shape.specs.Parts.{word, mark, comma, name, a_value}
 use Rattle.pq_shape.proofs.Tokens.{word_reads, mark_reads, name_reads, value_reads, comma_separated}
 use Rattle.pq_shape.specs.declared.keyword.TheConstants.{DELETE, FROM, INSERT, INTO, SET, UPDATE, VALUES, WHERE}
@@ -17,7 +17,7 @@ use Rattle.pq_shape.specs.declared.shape.Shape.{Shape}
 use Rattle.pq_shape.specs.declared.shape.Shape.TheVariants as shape
 use Rattle.pq_def_read.specs.Definitions.{cols_at}
 use Rattle.pq_def_read.specs.Grammar.{cols, insert, set, update, delete, write}
-use Rattle.pq_def_read.specs.Writes.{values_clause_at, sets_at, key_clause_at, conditions_at, insert_at, update_at, delete_at, write_at}
+use Rattle.pq_def_read.specs.Writes.{values_clause_at, sets_at, key_clause_at, conditions_at, insert_at, update_at, delete_at, write_at, writes_at}
 use Rattle.pq_def_read.specs.declared.write.Assign.{Assign}
 use Rattle.pq_def_read.specs.declared.write.CondDef.{CondDef}
 use Rattle.pq_def_read.specs.declared.write.SetDef.{SetDef}
@@ -142,3 +142,26 @@ pub write_shuts : (p : Shape → Bool) → p (shape.Keyword INSERT) ≡ false �
 write_shuts p i u d (Insert t cs vs) w rest h = then_shuts p (shape.Keyword INSERT) _ i w rest h
 write_shuts p i u d (Update t ss ks cs) w rest h = then_shuts p (shape.Keyword UPDATE) _ u w rest h
 write_shuts p i u d (Delete t ks cs) w rest h = then_shuts p (shape.Keyword DELETE) _ d w rest h
+
+-- ---- the writes of a batch
+
+-- what goes on behind a write, or behind the writes of a batch
+abbrev pub is_writes_more : Shape → Bool
+is_writes_more = any_of (is_mark_shape COMMA) is_row_more
+
+-- a comma goes on with no write
+comma_apart : (t : Shape) → is_mark_shape COMMA t ≡ true → is_row_more t ≡ false
+unfolding is_mark_shape is_word_shape is_soft_shape
+comma_apart (shape.Mark m) e = refl
+comma_apart (shape.Keyword k) e = absurd cc
+comma_apart (shape.Name n) e = absurd cc
+comma_apart (shape.Number z) e = absurd cc
+comma_apart (shape.Text x) e = absurd cc
+comma_apart shape.Other e = absurd cc
+
+pub writes_reads : Reads (separated_by comma write) is_writes_more writes_at
+unfolding writes_at is_mark_shape
+writes_reads =
+    separated_reads comma write (is_mark_shape COMMA) is_row_more is_writes_more (mark_at COMMA) write_at (mark_reads COMMA) write_reads
+    (λ w h. one_opens (is_mark_shape COMMA) (shape.Mark COMMA) refl w h) comma_apart
+    (not_second (is_mark_shape COMMA) is_row_more) (not_first (is_mark_shape COMMA) is_row_more)

@@ -24,7 +24,7 @@ use Rattle.pq_def_read.specs.declared.definition.Constraint.TheVariants as const
 use Rattle.pq_def_read.specs.declared.definition.Constraints.{Constraints}
 use Rattle.pq_def_read.specs.declared.definition.Kind.{Kind}
 use Rattle.pq_def_read.specs.declared.statement.Statement.{Statement}
-use Rattle.pq_def_read.specs.declared.statement.Statement.TheVariants.{Create, Write, Prepare, Explain, Run, Alter, Counter, Read, Show, Select}
+use Rattle.pq_def_read.specs.declared.statement.Statement.TheVariants.{Create, Write, Batch, Prepare, Explain, Run, Alter, Counter, Read, Show, Select}
 use Rattle.pq_def_read.specs.declared.write.Assign.{Assign}
 use Rattle.pq_def_read.specs.declared.write.CondDef.{CondDef}
 use Rattle.pq_def_read.specs.declared.write.SetDef.{SetDef}
@@ -149,6 +149,10 @@ write (Insert table columns values) = insert table columns values
 write (Update table sets row cs) = update table sets row cs
 write (Delete table row cs) = delete table row cs
 
+-- BATCH write { "," write }
+abbrev pub batch : List WriteDef → List Shape → Type 0
+batch writes = soft soft_word.Batch ⋅ separated_by comma write writes ⋅ mark SEMICOLON
+
 -- [ "(" [ value { "," value } ] ")" ]
 abbrev pub arguments : List Value → List Shape → Type 0
 arguments values w = ((values ≡ []) × nothing w) ⊎ (mark OPEN ⋅ listed_by comma a_value values ⋅ mark CLOSE) w
@@ -171,6 +175,7 @@ read n values = soft soft_word.Read ⋅ name n ⋅ mark OPEN ⋅ separated_by co
 abbrev pub Spells : Statement → List Shape → Type 0
 Spells (Create d) w = create d w
 Spells (Write x) w = (write x ⋅ mark SEMICOLON) w
+Spells (Batch writes) w = batch writes w
 Spells (Prepare n from) w = (3 ≡ from) × (word PREPARE ⋅ name n ⋅ word AS ⋅ anything) w
 Spells (Explain from) w = (1 ≡ from) × (word EXPLAIN ⋅ anything) w
 Spells (Run query values after) w = run query values after w

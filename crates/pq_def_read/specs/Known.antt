@@ -3,7 +3,7 @@ use Rattle.std.specs.Prelude.{All, List}
 use Rattle.pq_base.specs.Values.{IsValue}
 use Rattle.pq_base.specs.declared.value.Value.TheVariants as value
 use Rattle.pq_def_read.specs.declared.statement.Statement.{Statement}
-use Rattle.pq_def_read.specs.declared.statement.Statement.TheVariants.{Create, Write, Prepare, Explain, Run, Alter, Counter, Read, Show, Select}
+use Rattle.pq_def_read.specs.declared.statement.Statement.TheVariants.{Create, Write, Batch, Prepare, Explain, Run, Alter, Counter, Read, Show, Select}
 use Rattle.pq_def_read.specs.declared.write.Assign.{Assign}
 use Rattle.pq_def_read.specs.declared.write.CondDef.{CondDef}
 use Rattle.pq_def_read.specs.declared.write.SetDef.{SetDef}
@@ -30,8 +30,12 @@ HasWriteValues (Insert table columns values) = All IsValue values
 HasWriteValues (Update table sets row conds) = AreSettings sets × (AreKnown row × AreConditions conds)
 HasWriteValues (Delete table row conds) = AreKnown row × AreConditions conds
 
+abbrev pub HaveWriteValues : List WriteDef → Type 0
+HaveWriteValues writes = All HasWriteValues writes
+
 abbrev pub HasValues : Statement → Type 0
 HasValues (Write write) = HasWriteValues write
+HasValues (Batch writes) = HaveWriteValues writes
 HasValues (Run query values after) = All IsValue values
 HasValues (Alter def) = IsValue def.filler
 HasValues (Read name values) = All IsValue values

@@ -10,9 +10,9 @@ use Rattle.pq_shape.specs.declared.mark.TheConstants.{CLOSE, COMMA, OPEN, SEMICO
 use Rattle.pq_shape.specs.declared.soft.Soft.TheVariants as soft_word
 use Rattle.pq_shape.specs.declared.shape.Shape.{Shape}
 use Rattle.pq_def_read.specs.Definitions.{table_definition_at, counter_definition_at, alter_at, statement_end_at}
-use Rattle.pq_def_read.specs.Writes.{values_clause_at, write_at}
+use Rattle.pq_def_read.specs.Writes.{values_clause_at, write_at, writes_at}
 use Rattle.pq_def_read.specs.declared.statement.Statement.{Statement}
-use Rattle.pq_def_read.specs.declared.statement.Statement.TheVariants.{Create, Write, Prepare, Explain, Run, Alter, Counter, Read, Show, Select}
+use Rattle.pq_def_read.specs.declared.statement.Statement.TheVariants.{Create, Write, Batch, Prepare, Explain, Run, Alter, Counter, Read, Show, Select}
 
 -- a table or a counter
 unfoldable pub create_statement_at : Reader Shape Statement
@@ -22,6 +22,10 @@ create_statement_at = skip_at (word_at CREATE) (choice_at (is_word_shape TABLE)
 -- a write and the mark behind it
 unfoldable pub written_at : Reader Shape Statement
 written_at = map_at (λ x. Write x) (close_at write_at (mark_at SEMICOLON))
+
+-- writes, and the mark behind the last of them
+unfoldable pub batch_at : Reader Shape Statement
+batch_at = map_at (λ xs. Batch xs) (skip_at (soft_at soft_word.Batch) (close_at writes_at (mark_at SEMICOLON)))
 
 -- three tokens, and then any
 unfoldable pub prepare_at : Reader Shape Statement
@@ -65,7 +69,8 @@ statement_at =
     (choice_at (is_word_shape SELECT) select_at
     (choice_at (is_word_shape SHOW) show_at
     (choice_at (is_soft_shape soft_word.Alter) (map_at (λ d. Alter d) alter_at)
-    (choice_at (is_soft_shape soft_word.Read) read_counter_at written_at)))))))
+    (choice_at (is_soft_shape soft_word.Read) read_counter_at
+    (choice_at (is_soft_shape soft_word.Batch) batch_at written_at))))))))
 
 unfoldable pub read_at : List Shape → Result Statement ℕ
 read_at = all_at statement_at

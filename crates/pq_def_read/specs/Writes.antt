@@ -89,3 +89,7 @@ delete_at = map_at (λ x. Delete x.0 x.1.0 x.1.1) (skip_at (word_at DELETE)
 -- without a mark behind it
 unfoldable pub write_at : Reader Shape WriteDef
 write_at = choice_at (is_word_shape INSERT) insert_at (choice_at (is_word_shape UPDATE) update_at delete_at)
+
+-- the writes of a batch
+unfoldable pub writes_at : Reader Shape (List WriteDef)
+writes_at = separated_at (is_mark_shape COMMA) (mark_at COMMA) write_at

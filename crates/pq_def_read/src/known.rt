@@ -1,7 +1,7 @@
 //! Statements whose values are in their kinds' ranges.
 ghost use Rattle.std.specs.Prelude.{All};
 ghost use Rattle.pq_base.specs.Values.{IsValue};
-ghost use Rattle.pq_def_read.specs.Known.{IsSetting, AreSettings, AreKnown, AreConditions, HasWriteValues, HasValues};
+ghost use Rattle.pq_def_read.specs.Known.{IsSetting, AreSettings, AreKnown, AreConditions, HasWriteValues, HaveWriteValues, HasValues};
 
 use crate::statement::Statement;
 use crate::write::{Assign, CondDef, SetDef, Setting, WriteDef};
@@ -82,12 +82,21 @@ fn known_write(write: &WriteDef)
     }
 }
 
+fn known_writes(writes: &[WriteDef])
+    ensures { HaveWriteValues writes.now }
+{
+    for write in writes {
+        known_write(write);
+    }
+}
+
 /// Tells a proof that the values of a statement are in their kinds' ranges.
 pub fn known_statement(statement: &Statement)
     ensures { HasValues statement.now }
 {
     match statement {
         Statement::Write(write) => known_write(write),
+        Statement::Batch(writes) => known_writes(writes.items()),
         Statement::Run { values, .. } => known_values(values.items()),
         Statement::Alter(def) => known_value(&def.filler),
         Statement::Read { values, .. } => known_values(values.items()),

@@ -1,7 +1,7 @@
 //! Reading statements.
 ghost use Rattle.std.specs.Prelude.{◌≡◌, ◌-◌, ◌≤◌, ◌^◌, length, Ok, IfOk, IfErr, MatchResult, min};
 ghost use Rattle.pq_grammar.specs.Answers.{Gives};
-ghost use Rattle.pq_def_read.specs.Reading.{create_statement_at, written_at, prepare_at, explain_at, select_at, listed_values_at, arguments_at, after_at, run_at, read_counter_at, show_at, statement_at, read_at, statement_of};
+ghost use Rattle.pq_def_read.specs.Reading.{create_statement_at, written_at, batch_at, prepare_at, explain_at, select_at, listed_values_at, arguments_at, after_at, run_at, read_counter_at, show_at, statement_at, read_at, statement_of};
 ghost use Rattle.pq_shape.specs.Shapes.{shapes_of};
 ghost use Rattle.pq_shape.specs.Faults.{IsRefusalOf, IsNoMem};
 ghost use Rattle.pq_def_read.specs.Grammar.{Spells};
@@ -12,7 +12,7 @@ ghost use Rattle.pq_def_read.specs.declared.statement.Statement as declared;
 use crate::definition::{alter, counter_definition, stop, table_definition};
 use crate::known::known_statement;
 use crate::statement::Statement;
-use crate::writes::{any_write, values};
+use crate::writes::{any_write, values, writes};
 use pq_base::{List, PText, Stopped, Value};
 use pq_grammar::ReadError;
 use pq_shape::{
@@ -49,6 +49,17 @@ fn write(alloc: Global, c: &mut Cursor) -> Result<Statement, ReadError>
     let write = any_write(alloc, c)?;
     c.mark(SEMICOLON)?;
     Ok(Statement::Write(write))
+}
+
+/// Reads a BATCH.
+#[tactic(auto, unfolding(crate::specs::Reading::batch_at))]
+fn batch(alloc: Global, c: &mut Cursor) -> Result<Statement, ReadError>
+    ensures { Gives (λ x. (x, c.new)) result (batch_at c.old) }
+{
+    c.soft(Soft::Batch)?;
+    let writes = writes(alloc, c)?;
+    c.mark(SEMICOLON)?;
+    Ok(Statement::Batch(writes))
 }
 
 /// Reads the head of a PREPARE, and passes over the query.
@@ -174,6 +185,8 @@ fn any_statement(alloc: Global, c: &mut Cursor) -> Result<Statement, ReadError>
             Ok(Statement::Alter(alter(alloc, c)?))
         } else if c.is_soft(Soft::Read) {
             read_counter(alloc, c)
+        } else if c.is_soft(Soft::Batch) {
+            batch(alloc, c)
         } else {
             write(alloc, c)
         }

@@ -10,6 +10,8 @@ pub enum Statement {
     Create(TableDef),
     /// INSERT, UPDATE or DELETE.
     Write(WriteDef),
+    /// BATCH: several writes that are made as one.
+    Batch(List<WriteDef>),
     /// PREPARE, with the place of the token after its head.
     Prepare {
         name: PText,

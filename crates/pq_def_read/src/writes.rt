@@ -3,7 +3,7 @@ ghost use Rattle.pq_grammar.specs.Answers.{Gives};
 ghost use Rattle.pq_grammar.specs.Reader.{option_at};
 ghost use Rattle.pq_shape.specs.Front.{is_mark_shape};
 ghost use Rattle.pq_def_read.specs.Definitions.{cols_at};
-ghost use Rattle.pq_def_read.specs.Writes.{values_clause_at, setting_at, set_at, sets_at, assign_at, key_clause_at, any_operator_at, compare_at, null_test_at, comparison_at, cond_at, conds_at, conditions_at, insert_at, update_at, delete_at, write_at};
+ghost use Rattle.pq_def_read.specs.Writes.{values_clause_at, setting_at, set_at, sets_at, assign_at, key_clause_at, any_operator_at, compare_at, null_test_at, comparison_at, cond_at, conds_at, conditions_at, insert_at, update_at, delete_at, write_at, writes_at};
 
 use crate::definition::cols;
 use crate::write::{Assign, CondDef, SetDef, Setting, WriteDef};
@@ -245,4 +245,25 @@ pub fn any_write(alloc: Global, c: &mut Cursor) -> Result<WriteDef, ReadError>
         return update(alloc, c);
     }
     delete(alloc, c)
+}
+
+impl Part for WriteDef {
+    ghost use Rattle.pq_def_read.specs.Writes.{write_at};
+    ghost use Rattle.pq_def_read.specs.Shrinking.{write_shrinks};
+
+    ghost reads = { write_at };
+
+    fn part(alloc: Global, c: &mut Cursor) -> Result<WriteDef, ReadError> {
+        any_write(alloc, c)
+    }
+
+    ghost shrinks = { write_shrinks };
+}
+
+/// Reads the writes of a batch.
+#[tactic(auto, unfolding(crate::specs::Writes::writes_at))]
+pub fn writes(alloc: Global, c: &mut Cursor) -> Result<List<WriteDef>, ReadError>
+    ensures { Gives (λ x. (x, c.new)) result (writes_at c.old) }
+{
+    separated(alloc, c, Between::Comma)
 }

@@ -1,5 +1,5 @@
 -- The generated script: its statements in order, the text of each, and what is counted of each.
-use Rattle.std.specs.Prelude.{ℕ, ◌+◌, ◌-◌, ◌*◌, ◌/◌, ◌%◌, min, ◌==◌, Bool, true, not, List, [], ◌∷◌, ◌++◌, map, flat_map, slice_get, codes, decimal, Option}
+use Rattle.std.specs.Prelude.{ℕ, ◌+◌, ◌-◌, ◌*◌, ◌/◌, ◌%◌, min, ◌==◌, Bool, not, List, [], ◌∷◌, ◌++◌, map, flat_map, slice_get, codes, decimal, Option}
 use Rattle.std.specs.List.{range_with_len}
 use Rattle.pq_fill.specs.declared.item.Definition.{Definition}
 use Rattle.pq_fill.specs.declared.item.Definition.TheVariants as definition

@@ -47,6 +47,7 @@ abbrev pub end_count : End → ℕ
 end_count end.Done = 0
 end_count (end.Rows count next) = count
 end_count (end.Refused why) = 0
+end_count (end.InBatch place cause) = 0
 
 -- the rows that are answered: a report of rows has no other lines, so they are its first ones, as many as it counts
 abbrev pub answer_lines : Report → List Line

@@ -44,7 +44,7 @@ fn counted(end: &End) -> u32
     ensures { result ≡ end_count end.now }
 {
     match end {
-        End::Done | End::Refused(_) => 0,
+        End::Done | End::Refused(_) | End::InBatch { .. } => 0,
         End::Rows { count, .. } => *count,
     }
 }

@@ -73,6 +73,7 @@ statement_one schema next text tokens (statement.Prepare name from) is = planned
 statement_one schema next text tokens (statement.Alter def) is = column_one schema next def is
 statement_one schema next text tokens (statement.Counter def) is = counter_one schema next def is
 statement_one schema next text tokens (statement.Write write) is = absurd (none-some _ is)
+statement_one schema next text tokens (statement.Batch writes) is = absurd (none-some _ is)
 statement_one schema next text tokens (statement.Explain from) is = absurd (none-some _ is)
 statement_one schema next text tokens (statement.Run name values after) is = absurd (none-some _ is)
 statement_one schema next text tokens (statement.Read name values) is = absurd (none-some _ is)

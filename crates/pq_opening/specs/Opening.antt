@@ -102,6 +102,7 @@ defined_by schema text tokens (statement.Prepare name from) =
     with_planned schema (plan_from schema name text tokens from)
 defined_by schema text tokens (statement.Alter def) = result_ok (new_column schema def)
 defined_by schema text tokens (statement.Write write) = None
+defined_by schema text tokens (statement.Batch writes) = None
 defined_by schema text tokens (statement.Explain from) = None
 defined_by schema text tokens (statement.Run name params after) = None
 defined_by schema text tokens (statement.Counter def) = result_ok (new_counter schema def)

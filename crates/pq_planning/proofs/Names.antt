@@ -1,5 +1,5 @@
 -- What a statement that was read defines has names, and its query begins within the tokens.
-use Rattle.std.proofs.Common.{◌≡◌, ℕ, ◌+◌, ◌-◌, ◌≤◌, List, length, Ok, sym, ap, ◌∙◌, arith, length-append}
+use Rattle.std.proofs.Common.{◌≡◌, ℕ, ◌+◌, ◌≤◌, List, length, Ok, sym, ap, ◌∙◌, arith, length-append}
 use Rattle.std.proofs.lemmas.List.{length-map}
 use Rattle.pq_grammar.specs.Language.{◌⋅◌, one}
 use Rattle.pq_text.specs.declared.token.Token.{Token}
@@ -37,6 +37,7 @@ named_statement text tokens (statement.Alter def) same read = altered_named text
 named_statement text tokens (statement.Prepare name from) same read =
     (prepared_named text name from (ap (statement_of text) (sym same) ∙ read), prepared_within text tokens name from (spelled text tokens (statement.Prepare name from) read))
 named_statement text tokens (statement.Write write) same read = tt
+named_statement text tokens (statement.Batch writes) same read = tt
 named_statement text tokens (statement.Explain from) same read = explained_within text tokens from (spelled text tokens (statement.Explain from) read)
 named_statement text tokens (statement.Run query values after) same read = tt
 named_statement text tokens (statement.Counter def) same read = counted_named text def (ap (statement_of text) (sym same) ∙ read)

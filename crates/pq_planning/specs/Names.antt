@@ -11,6 +11,7 @@ IsNamedStatement tokens (statement.Create def) = IsTableDef def
 IsNamedStatement tokens (statement.Alter def) = IsAlterDef def
 IsNamedStatement tokens (statement.Prepare name from) = IsName name × (from ≤ length tokens)
 IsNamedStatement tokens (statement.Write write) = Unit {0}
+IsNamedStatement tokens (statement.Batch writes) = Unit {0}
 IsNamedStatement tokens (statement.Explain from) = from ≤ length tokens
 IsNamedStatement tokens (statement.Run name params after) = Unit {0}
 IsNamedStatement tokens (statement.Counter def) = IsCounterDef def

@@ -87,3 +87,7 @@ refusal_fields (refusal.Sum table column) = refusal_field table ++ refusal_field
 
 abbrev pub refusal_text : Refusal → List ℕ
 refusal_text why = refusal_number why ++ refusal_fields why
+
+-- a batch is refused by the write at a place, from 1: its cause stands behind
+abbrev pub in_batch_text : ℕ → Refusal → List ℕ
+in_batch_text place cause = codes "E513" ++ refusal_field (decimal place) ++ refusal_field (refusal_text cause)

@@ -16,7 +16,7 @@ use Rattle.pq_print.specs.declared.report.Report.{Report}
 use Rattle.pq_print.specs.declared.report.Opened.{Opened}
 use Rattle.pq_print.specs.Lists.{separate_texts}
 use Rattle.pq_print.specs.Values.{row_text}
-use Rattle.pq_print.specs.Refusals.{refusal_text}
+use Rattle.pq_print.specs.Refusals.{refusal_text, in_batch_text}
 
 abbrev pub bound_text : Bound → List ℕ
 bound_text bound = codes " bound " ++ decimal bound.ops ++ codes " " ++ decimal bound.entries
@@ -53,6 +53,7 @@ abbrev pub end_text : End → List ℕ
 end_text end.Done = codes " ok"
 end_text (end.Rows count next) = codes " ok rows " ++ decimal count ++ next_text next
 end_text (end.Refused why) = codes " refused " ++ refusal_text why
+end_text (end.InBatch place cause) = codes " refused " ++ in_batch_text place cause
 
 -- a line of this text
 abbrev pub line_of : List ℕ → List ℕ
@@ -83,6 +84,7 @@ abbrev pub is_refused : End → Bool
 is_refused end.Done = false
 is_refused (end.Rows count next) = false
 is_refused (end.Refused why) = true
+is_refused (end.InBatch place cause) = true
 
 abbrev pub is_refusal : Report → Bool
 is_refusal report = is_refused report.end

@@ -5,7 +5,7 @@ ghost use Rattle.pq_print.specs.Report.{bound_text, used_text, choice_text, dir_
 
 use crate::number::put_number;
 use crate::part::{Part, put_each, put_separated};
-use crate::refusal::put_refusal;
+use crate::refusal::{put_in_batch, put_refusal};
 use crate::report::{End, IndexCol, Line, Opened, Report};
 use crate::value::put_row;
 use pq_base::{Bound, Bytes, Choice, Dir, NoMem, PText, Used};
@@ -130,6 +130,10 @@ fn put_end(end: &End, out: &mut String) -> Result<(), AllocError>
             out.push_str(" refused ")?;
             put_refusal(refusal, out)
         }
+        End::InBatch { place, cause } => {
+            out.push_str(" refused ")?;
+            put_in_batch(*place, cause, out)
+        }
     }
 }
 
@@ -150,7 +154,7 @@ impl Report {
     {
         match self.end {
             End::Done | End::Rows { .. } => false,
-            End::Refused(_) => true,
+            End::Refused(_) | End::InBatch { .. } => true,
         }
     }
 }

@@ -1,7 +1,7 @@
 //! Refusals as text: the number, and then the fields.
 ghost use Rattle.std.specs.Prelude.{◌≡◌, ◌<◌, ◌++◌, [], length, OnOk, string_bytes, slice_index_or};
 ghost use Rattle.pq_base.specs.Words.{refusals, counts};
-ghost use Rattle.pq_print.specs.Refusals.{refusal_field, refusal_number, refusal_fields, refusal_text};
+ghost use Rattle.pq_print.specs.Refusals.{refusal_field, refusal_number, refusal_fields, refusal_text, in_batch_text};
 
 use crate::number::put_number;
 use itoa::Integer;
@@ -146,6 +146,16 @@ fn put_fields(refusal: &Refusal, out: &mut String) -> Result<(), AllocError>
             put_count(*length, out)
         }
     }
+}
+
+/// Puts the text of the refusal of a batch behind what is there: the place of the write from 1, and then its cause.
+pub fn put_in_batch(place: u16, cause: &Refusal, out: &mut String) -> Result<(), AllocError>
+    ensures { OnOk result (string_bytes out.new ≡ string_bytes out.old ++ in_batch_text place cause.now) }
+{
+    out.push_str(number_at(refusal_place::IN_BATCH))?;
+    put_count(place, out)?;
+    out.push_str(" ")?;
+    put_refusal(cause, out)
 }
 
 /// Puts the refusal's text behind what is there.

@@ -40,6 +40,8 @@ pub enum End {
     /// So many rows, and the cursor of the next page where this one is full.
     Rows { count: u32, next: Option<PText> },
     Refused(Refusal),
+    /// The batch is refused: the write at this place, from 1, for this cause.
+    InBatch { place: u16, cause: Refusal },
 }
 
 /// The report of a statement, numbered from 1.

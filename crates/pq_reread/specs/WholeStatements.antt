@@ -40,6 +40,7 @@ with_query_read w (statement.Explain from) = select_at (drop from w) >>= λ def.
 with_query_read w statement.Select = select_at w >>= λ def. Ok (Selects def)
 with_query_read w (statement.Create def) = Ok (Plain (statement.Create def))
 with_query_read w (statement.Write write) = Ok (Plain (statement.Write write))
+with_query_read w (statement.Batch writes) = Ok (Plain (statement.Batch writes))
 with_query_read w (statement.Run n values after) = Ok (Plain (statement.Run n values after))
 with_query_read w (statement.Alter def) = Ok (Plain (statement.Alter def))
 with_query_read w (statement.Counter def) = Ok (Plain (statement.Counter def))
