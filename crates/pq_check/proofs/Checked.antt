@@ -14,16 +14,16 @@ use Rattle.pq_schema.specs.declared.table.NewIndex.{NewIndex}
 use Rattle.pq_text.specs.declared.piece.Piece.{Piece}
 use Rattle.pq_schema.specs.Definitions.{counted_schema, new_counter}
 use Rattle.pq_schema.specs.declared.definition.CounterDef.{CounterDef}
-use Rattle.pq_statement.specs.Actions.{Action, Creates, Adds, Writes, Prepares, Explains, Runs, Counts, Reads, Shows, Selects, action_from, action_of, asked_bound, asked_schema}
+use Rattle.pq_statement.specs.Actions.{Action, Creates, Adds, Writes, Batches, Misreads, Prepares, Explains, Runs, Counts, Reads, Shows, Selects, action_from, action_of, asked_bound, asked_schema}
 use Rattle.pq_check.specs.Checks.{IsChecked, action_check, checked_as, check_step, without_rows}
 use Rattle.pq_planning.specs.Lines.{planned_lines}
 use Rattle.pq_planning.specs.Planned.{IsComputed}
 use Rattle.pq_planning.specs.Planning.{PlannedDefinition, planned_definition}
 use Rattle.pq_running.specs.Running.{query_bound}
 use Rattle.pq_reports.specs.Promise.{IsBound}
-use Rattle.pq_reports.specs.Refusing.{CanEnd}
+use Rattle.pq_reports.specs.Refusing.{CanEnd, IsUnread}
 use Rattle.pq_statement.specs.Requests.{IsPlannedAs}
-use Rattle.pq_reports.specs.Step.{Step, counted_over, counter_step, crowding_refusal, prepared_over, report_of, unread_report}
+use Rattle.pq_reports.specs.Step.{Step, counted_over, counter_step, crowding_refusal, prepared_over, report_of}
 use Rattle.pq_planning.specs.declared.planning.PlannedQuery.{PlannedQuery}
 use Rattle.pq_catalog.proofs.Kept.{compiled_bound}
 use Rattle.pq_reports.proofs.Planned.{explained_lines, lines_are, plan_is}
@@ -33,7 +33,7 @@ pub record IsCheckStep (schema : Schema) (number : ℕ) (asked : Result Action R
   pub numbered : made.report.number ≡ number
   pub bound : IsBound (asked_bound schema asked) made.report.bound
   pub unused : made.report.used ≡ record { ops = 0; entries = 0 }
-  pub unread : IfErr asked (λ why. made.report ≡ unread_report number why)
+  pub unread : IsUnread number asked made.report
   pub can : CanEnd schema asked made.report.end
   pub model : made.model ≡ without_rows (if is_refusal made.report then schema else asked_schema schema asked)
 
@@ -59,6 +59,8 @@ module _ (schema : Schema) (number : ℕ) where
   is_check_step (Ok (Creates table)) = record { numbered = refl; bound = refl; unused = refl; unread = tt; can = tt; model = refl }
   is_check_step (Ok (Adds def)) = record { numbered = refl; bound = refl; unused = refl; unread = tt; can = tt; model = refl }
   is_check_step (Ok (Writes write)) = record { numbered = refl; bound = refl; unused = refl; unread = tt; can = tt; model = refl }
+  is_check_step (Ok (Batches writes)) = record { numbered = refl; bound = refl; unused = refl; unread = tt; can = tt; model = refl }
+  is_check_step (Ok (Misreads place cause)) = record { numbered = refl; bound = refl; unused = refl; unread = refl; can = (refl, refl); model = refl }
   is_check_step (Ok (Prepares plan)) =
       subst (IsCheckStep schema number (Ok (Prepares plan))) (sym (prepared_none plan))
       (record { numbered = refl; bound = none_bound plan.chosen.wanted; unused = refl; unread = tt; can = tt; model = refl })

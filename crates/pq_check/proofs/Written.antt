@@ -32,7 +32,7 @@ use Rattle.pq_runnable.proofs.Staying.{err_not_ok}
 use Rattle.pq_arrange.specs.Arrange.{arranged_query}
 use Rattle.pq_arrange.proofs.Answers.{same_answers}
 use Rattle.pq_statement.specs.Actions as action
-use Rattle.pq_statement.specs.Actions.{Action, Creates, Adds, Writes, Prepares, Explains, Runs, Shows, Selects, action_from, action_of, asked_schema, asked_text, schema_after}
+use Rattle.pq_statement.specs.Actions.{Action, Creates, Adds, Writes, Batches, Misreads, Prepares, Explains, Runs, Shows, Selects, action_from, action_of, asked_schema, asked_text, schema_after}
 use Rattle.pq_check.specs.Checks.{IsChecked, checked_as}
 use Rattle.pq_catalog.specs.Model.{Model}
 use Rattle.pq_reports.specs.Promise.{Promises}
@@ -40,7 +40,7 @@ use Rattle.pq_planning.specs.Planning.{as_it_is, with_chosen, definable, arrange
 use Rattle.pq_reports.specs.Step.{unread_report}
 use Rattle.pq_check.specs.Written.{IsPrepareOf, AnswersAs, IsDefinedAs}
 use Rattle.pq_check.proofs.Checked.{is_check_step}
-use Rattle.pq_reports.proofs.Promises.{promised_next}
+use Rattle.pq_reports.proofs.Promises.{promised_next, unread_err}
 use Rattle.pq_statement.proofs.Statements.{asked_read, too_long, text_piece}
 
 -- what is read over a valid schema is one of its queries
@@ -63,6 +63,8 @@ module _ (schema : Schema) (written : Query) where
   PlansAs (Ok (Creates table)) = ⊥
   PlansAs (Ok (Adds def)) = ⊥
   PlansAs (Ok (Writes write)) = ⊥
+  PlansAs (Ok (Batches writes)) = ⊥
+  PlansAs (Ok (Misreads place cause)) = ⊥
   PlansAs (Ok (Explains plan)) = ⊥
   PlansAs (Ok (Runs running)) = ⊥
   PlansAs (Ok (action.Counts def)) = ⊥
@@ -116,6 +118,8 @@ module _ (schema : Schema) (written : Query) where
   by_asked (Ok (Creates table)) next resolved as_taken ok is = absurd as_taken
   by_asked (Ok (Adds def)) next resolved as_taken ok is = absurd as_taken
   by_asked (Ok (Writes write)) next resolved as_taken ok is = absurd as_taken
+  by_asked (Ok (Batches writes)) next resolved as_taken ok is = absurd as_taken
+  by_asked (Ok (Misreads place cause)) next resolved as_taken ok is = absurd as_taken
   by_asked (Ok (Explains plan)) next resolved as_taken ok is = absurd as_taken
   by_asked (Ok (Runs running)) next resolved as_taken ok is = absurd as_taken
   by_asked (Ok (action.Counts def)) next resolved as_taken ok is = absurd as_taken
@@ -147,7 +151,8 @@ module _ (number : ℕ) (p : Piece) (old now : Option Content) (schema : Schema)
   pub promised_as : (result : Result (Schema × Report) Broke) → Promises number (action_of schema p) old now schema before after result
       → IfOk result (λ made. (written : Query) → IsPrepareOf schema written p → is_refusal made.1 ≡ false → IsDefinedAs schema.tables written made.0)
   promised_as (Ok made) done = λ written is accepted.
-      prepared_as schema written valid number p made.0 made.1 is (promised_next number p old now schema before after (Ok made) done) done.unread accepted
+      prepared_as schema written valid number p made.0 made.1 is (promised_next number p old now schema before after (Ok made) done)
+      (unread_err number (action_of schema p) made.1 done.unread) accepted
   promised_as (Err broke) done = tt
 
 -- and one of a check

@@ -6,10 +6,11 @@ use Rattle.pq_schema.specs.Schema.{Schema}
 use Rattle.pq_text.specs.declared.piece.Piece.{Piece}
 use Rattle.pq_print.specs.declared.report.End.TheVariants.{Done}
 use Rattle.pq_print.specs.declared.report.Report.{Report}
+use Rattle.pq_batch.specs.Batches.{batch_bound}
 use Rattle.pq_builds.specs.Bounds.{bound}
 use Rattle.pq_counters.specs.Bounds.{whole_bound}
 use Rattle.pq_running.specs.Running.{query_bound}
-use Rattle.pq_statement.specs.Actions.{Action, Creates, Adds, Writes, Prepares, Explains, Runs, Counts, Reads, Shows, Selects, action_of}
+use Rattle.pq_statement.specs.Actions.{Action, Creates, Adds, Writes, Batches, Misreads, Prepares, Explains, Runs, Counts, Reads, Shows, Selects, action_of}
 use Rattle.pq_catalog.specs.Model.{Model}
 use Rattle.pq_reports.specs.Step.{Step, action_step, refused_unread, report_of, report_step}
 
@@ -21,11 +22,13 @@ without_rows schema = record { schema = schema; rows = [] }
 abbrev pub bound_told : Schema → ℕ → Bound → Step
 bound_told schema number most = report_step (without_rows schema) (report_of number [] Done most)
 
--- a write has no effect, a query no rows and a READ no number; all else is as over tables without rows
+-- a write or a batch has no effect, a query no rows and a READ no number; all else is as over tables without rows
 abbrev pub action_check : Schema → ℕ → Action → Step
 action_check schema number (Creates table) = action_step (without_rows schema) number (Creates table)
 action_check schema number (Adds def) = action_step (without_rows schema) number (Adds def)
 action_check schema number (Writes write) = bound_told schema number (whole_bound schema write)
+action_check schema number (Batches writes) = bound_told schema number (batch_bound schema writes)
+action_check schema number (Misreads place cause) = action_step (without_rows schema) number (Misreads place cause)
 action_check schema number (Prepares plan) = action_step (without_rows schema) number (Prepares plan)
 action_check schema number (Explains plan) = action_step (without_rows schema) number (Explains plan)
 action_check schema number (Runs running) = bound_told schema number (query_bound schema.tables running.query)

@@ -13,14 +13,15 @@ ghost use Rattle.pq_print.specs.Report.{is_refusal};
 ghost use Rattle.pq_schema.specs.declared.query.Query.{Query};
 
 use pq_base::{Bound, List, NoMem, Stopped};
+use pq_batch::batch_bound;
 use pq_catalog::PlannedCatalog;
 use pq_compile::Compiled;
 use pq_counters::whole_bound;
 use pq_planning::{PlannedQuery, planned_lines};
 use pq_print::Report;
 use pq_reports::{
-    COUNTER_BOUND, NOTHING_USED, READ_BOUND, done_report, lines_of, plan_report, request_of, show,
-    unpaid_report, unread_report,
+    COUNTER_BOUND, NOTHING_USED, READ_BOUND, done_report, lines_of, misread_report, plan_report,
+    request_of, show, unpaid_report, unread_report,
 };
 use pq_schema::{AlterDef, CounterDef, NewIndex, TableDef};
 use pq_statement::Request;
@@ -76,6 +77,13 @@ fn check_request(
         Request::Write(write) => {
             let bound = whole_bound(planned.catalog(), &write);
             Ok((planned, done_report(alloc, number, bound, NOTHING_USED)))
+        }
+        Request::Batch(writes) => {
+            let bound = batch_bound(planned.catalog(), &writes);
+            Ok((planned, done_report(alloc, number, bound, NOTHING_USED)))
+        }
+        Request::Misread { place, cause } => {
+            Ok((planned, misread_report(alloc, number, place, cause)))
         }
         Request::Prepare(plan) => check_query(alloc, planned, number, plan),
         Request::Explain(plan) => {

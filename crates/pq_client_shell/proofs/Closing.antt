@@ -66,24 +66,24 @@ module _ (k : ℕ) (first last : Schema) (script : Script) (from stood now : Mom
     refusal = refused_is ∙ ap (λ b. b || behind) served.refusal;
   }
 
-  pub halts_behind : (known : Schema) → known ≡ last → (stop : Stop) → HaltsGathered k known script stop stood now → HaltsRead k first script stop from now
+  pub halts_behind : {answers : List ℕ → Option (List ℕ) → Type 0} (known : Schema) → known ≡ last → (stop : Stop) → HaltsGathered k known script stop stood now → HaltsRead answers k first script stop from now
   halts_behind known known_is stop halts =
       inr (record { last = last; reports = served.reports; stood = stood; made = made_front; halts = subst (λ (t : Schema). HaltsGathered k t script stop stood now) known_is halts })
 
-pub halts_front : (k : ℕ) (first : Schema) (script : Script) (stop : Stop) (from now : Moment) (ps : List Piece) → ps ≡ script.pieces → (count : ℕ) → count ≡ front_count script.pieces → StoppedItem Run stop first from now 1 (cut_items (take count ps))
-    → HaltsRead k first script stop from now
-halts_front k first script stop from now ps ps_is count count_is stopped =
-    inl (subst (λ (xs : List Piece). StoppedItem Run stop first from now 1 (cut_items xs)) (ap (take count) ps_is ∙ ap (λ n. take n script.pieces) count_is) stopped)
+pub halts_front : {answers : List ℕ → Option (List ℕ) → Type 0} (k : ℕ) (first : Schema) (script : Script) (stop : Stop) (from now : Moment) (ps : List Piece) → ps ≡ script.pieces → (count : ℕ) → count ≡ front_count script.pieces → StoppedItem answers Run stop first from now 1 (cut_items (take count ps))
+    → HaltsRead answers k first script stop from now
+halts_front {answers = answers} k first script stop from now ps ps_is count count_is stopped =
+    inl (subst (λ (xs : List Piece). StoppedItem answers Run stop first from now 1 (cut_items xs)) (ap (take count) ps_is ∙ ap (λ n. take n script.pieces) count_is) stopped)
 
 -- ---- the whole run
 
 -- a session that could not be started
-pub stops_opening : (k : ℕ) (stop : Stop) (left left' : Option (List ℕ)) (old now : Option Content) (held : Option (List ℕ)) (before after : Counts)
-    → ((held : Option (List ℕ)) → StoppedOpening stop (moment old held before) (moment now held after)) → BrokenClients k stop (run_world left old held before) (run_world left' now held after)
+pub stops_opening : {answers : List ℕ → Option (List ℕ) → Type 0} (k : ℕ) (stop : Stop) (left left' : Option (List ℕ)) (old now : Option Content) (held : Option (List ℕ)) (before after : Counts)
+    → ((held : Option (List ℕ)) → StoppedOpening stop (moment old held before) (moment now held after)) → BrokenClients answers k stop (run_world left old held before) (run_world left' now held after)
 stops_opening k stop left left' old now held before after stopped = Early (record { stopped = stopped held; silent = refl })
 
 -- one that was started, behind which memory was wanting
-pub stops_reading : (k : ℕ) (left left' : Option (List ℕ)) (old now : Option Content) (held : Option (List ℕ)) (before after : Counts) (first : Schema) → OpensStore old now first before after → BrokenClients k stops.NoMem (run_world left old held before) (run_world left' now held after)
+pub stops_reading : {answers : List ℕ → Option (List ℕ) → Type 0} (k : ℕ) (left left' : Option (List ℕ)) (old now : Option Content) (held : Option (List ℕ)) (before after : Counts) (first : Schema) → OpensStore old now first before after → BrokenClients answers k stops.NoMem (run_world left old held before) (run_world left' now held after)
 stops_reading k left left' old now held before after first opening = Early (record {
   stopped = cut_opening old now before after opening.line opening.bounded opening.ops opening.entries (λ m opens. (opening.opens m opens).0) opening.left (quiet_stays old now opening.left)
       stops.NoMem held held (λ m opens. settled_opens (opening.opens m opens).1.settled) refl;
@@ -101,20 +101,20 @@ finished_clients k left left' old mid now held held' before between after first 
   made = made;
 }
 
-pub broken_clients : (k : ℕ) (stop : Stop) (left left' : Option (List ℕ)) (old mid now : Option Content) (held held' : Option (List ℕ)) (before between after : Counts) (first : Schema) (script : Script)
-    → OpensStore old mid first before between → IsRead left left' script → HaltsRead k first script stop (moment mid held between) (moment now held' after) → BrokenClients k stop (run_world left old held before) (run_world left' now held' after)
+pub broken_clients : {answers : List ℕ → Option (List ℕ) → Type 0} (k : ℕ) (stop : Stop) (left left' : Option (List ℕ)) (old mid now : Option Content) (held held' : Option (List ℕ)) (before between after : Counts) (first : Schema) (script : Script)
+    → OpensStore old mid first before between → IsRead left left' script → HaltsRead answers k first script stop (moment mid held between) (moment now held' after) → BrokenClients answers k stop (run_world left old held before) (run_world left' now held' after)
 broken_clients k stop left left' old mid now held held' before between after first script opening read halts =
     Among (record { script = script; opened = opened_so left left' old mid held before between first script opening read; halts = halts })
 
 -- ---- each status
 
-finished : (k : ℕ) (ending : Ending) (refused : Bool) (before now : RunWorld) → FinishedClients k ending refused before now → Ends k (status_of ending refused) before now
-finished k Whole false before now is = is
-finished k Whole true before now is = is
-finished k Faulted refused before now is = (refused, is)
-finished k TooLong refused before now is = (refused, is)
+finished : (answers : List ℕ → Option (List ℕ) → Type 0) (k : ℕ) (ending : Ending) (refused : Bool) (before now : RunWorld) → FinishedClients k ending refused before now → Ends answers k (status_of ending refused) before now
+finished answers k Whole false before now is = is
+finished answers k Whole true before now is = is
+finished answers k Faulted refused before now is = (refused, is)
+finished answers k TooLong refused before now is = (refused, is)
 
-damaged : (k : ℕ) (is : Status) (damage : Damage) (before mid : RunWorld) (h' : Option (List ℕ)) → BrokenClients k (stops.Damaged damage) before mid → EndsDamaged is damage.key mid.moment.held h' → Ends k is before (written_world mid h')
+damaged : {answers : List ℕ → Option (List ℕ) → Type 0} (k : ℕ) (is : Status) (damage : Damage) (before mid : RunWorld) (h' : Option (List ℕ)) → BrokenClients answers k (stops.Damaged damage) before mid → EndsDamaged is damage.key mid.moment.held h' → Ends answers k is before (written_world mid h')
 damaged k status.Damaged damage before mid h' broken ends = record { damage = damage; held = mid.moment.held; line = damage_line damage.key; broken = broken; tail = refl; text = ends }
 damaged k status.WriteFault damage before mid h' broken ends = inr (record { damage = damage; held = mid.moment.held; line = ends.0; broken = broken; tail = ends.1; text = ends.2 })
 damaged k status.NoMem damage before mid h' broken ends = inr (record { damage = damage; held = mid.moment.held; line = []; broken = broken; tail = refl; text = ends ∙ sym (append_known-none mid.moment.held) })
@@ -125,16 +125,16 @@ damaged k status.ReadFault damage before mid h' broken ends = absurd ends
 damaged k status.StoreFault damage before mid h' broken ends = absurd ends
 damaged k status.TooLong damage before mid h' broken ends = absurd ends
 
-at_status : (k : ℕ) (is expected : Status) (before mid : RunWorld) (h' : Option (List ℕ)) → is ≡ expected → h' ≡ mid.moment.held → Ends k expected before mid → Ends k is before (written_world mid h')
-at_status k is expected before mid h' same kept ends = subst (λ h. Ends k is before (written_world mid h)) (sym kept) (subst (λ s. Ends k s before mid) (sym same) ends)
+at_status : (answers : List ℕ → Option (List ℕ) → Type 0) (k : ℕ) (is expected : Status) (before mid : RunWorld) (h' : Option (List ℕ)) → is ≡ expected → h' ≡ mid.moment.held → Ends answers k expected before mid → Ends answers k is before (written_world mid h')
+at_status answers k is expected before mid h' same kept ends = subst (λ h. Ends answers k is before (written_world mid h)) (sym kept) (subst (λ s. Ends answers k s before mid) (sym same) ends)
 
-pub ends_of : (k : ℕ) (outcome : Result Ended Stop) (is : Status) (before mid : RunWorld) (h' : Option (List ℕ)) → IfOk outcome (λ ended. FinishedClients k ended.ending ended.refused before mid) → IfErr outcome (λ stop. BrokenClients k stop before mid)
-    → Closes outcome is mid.moment.held h' → Ends k is before (written_world mid h')
-ends_of k (Ok ended) is before mid h' ok err closes = at_status k is (status_of ended.ending ended.refused) before mid h' closes.0 closes.1 (finished k ended.ending ended.refused before mid ok)
-ends_of k (Err stops.StoreFailed) is before mid h' ok err closes = at_status k is status.StoreFault before mid h' closes.0 closes.1 err
-ends_of k (Err stops.WriteFailed) is before mid h' ok err closes = at_status k is status.WriteFault before mid h' closes.0 closes.1 (inl err)
-ends_of k (Err stops.NoMem) is before mid h' ok err closes = at_status k is status.NoMem before mid h' closes.0 closes.1 (inl err)
-ends_of k (Err (stops.Damaged damage)) is before mid h' ok err closes = damaged k is damage before mid h' err closes
+pub ends_of : (answers : List ℕ → Option (List ℕ) → Type 0) (k : ℕ) (outcome : Result Ended Stop) (is : Status) (before mid : RunWorld) (h' : Option (List ℕ)) → IfOk outcome (λ ended. FinishedClients k ended.ending ended.refused before mid) → IfErr outcome (λ stop. BrokenClients answers k stop before mid)
+    → Closes outcome is mid.moment.held h' → Ends answers k is before (written_world mid h')
+ends_of answers k (Ok ended) is before mid h' ok err closes = at_status answers k is (status_of ended.ending ended.refused) before mid h' closes.0 closes.1 (finished answers k ended.ending ended.refused before mid ok)
+ends_of answers k (Err stops.StoreFailed) is before mid h' ok err closes = at_status answers k is status.StoreFault before mid h' closes.0 closes.1 err
+ends_of answers k (Err stops.WriteFailed) is before mid h' ok err closes = at_status answers k is status.WriteFault before mid h' closes.0 closes.1 (inl err)
+ends_of answers k (Err stops.NoMem) is before mid h' ok err closes = at_status answers k is status.NoMem before mid h' closes.0 closes.1 (inl err)
+ends_of answers k (Err (stops.Damaged damage)) is before mid h' ok err closes = damaged k is damage before mid h' err closes
 
 -- ---- completeness
 
@@ -171,26 +171,26 @@ module _ (k : ℕ) (schema : Schema) (script : Script) (damage : Damage) (stood 
       by (inl cut) = cut
       by (inr (first, text)) = never_damaged _ _ _ _ _ _ _ _ _ (telling.stepped.ran.promised m stands) damage first
 
-sound : (k : ℕ) (damage : Damage) (before now : RunWorld) → BrokenClients k (stops.Damaged damage) before now → (m : Model) → Opens before.moment.content m → ⊥
+sound : {answers : List ℕ → Option (List ℕ) → Type 0} (k : ℕ) (damage : Damage) (before now : RunWorld) → BrokenClients answers k (stops.Damaged damage) before now → (m : Model) → Opens before.moment.content m → ⊥
 sound k damage before now (Early b) m opens = (b.stopped.stands m opens).1
-sound k damage before now (Among b) m opens = by b.halts
+sound {answers = answers} k damage before now (Among b) m opens = by b.halts
   where
     stands : Stands b.opened.content b.opened.first m
     stands = (b.opened.opening.opens m opens).1
 
-    by : HaltsRead k b.opened.first b.script (stops.Damaged damage) (moment b.opened.content before.moment.held b.opened.counts) now.moment → ⊥
+    by : HaltsRead answers k b.opened.first b.script (stops.Damaged damage) (moment b.opened.content before.moment.held b.opened.counts) now.moment → ⊥
     by (inl stopped) = (stopped.stands m stands).1
     by (inr behind) = no_damage k behind.last b.script damage behind.stood now.moment _ (behind.made.folds m stands).0 behind.halts
 
 -- where no fault came, the script wasn't too long and the store opens, the run is plain
-pub ends_plain : (k : ℕ) (is : Status) (before now : RunWorld) → Ends k is before now → (m : Model) → Opens before.moment.content m → (is ≡ status.TooLong → ⊥) → (is ≡ status.ReadFault → ⊥) → (is ≡ status.WriteFault → ⊥) → (is ≡ status.StoreFault → ⊥)
+pub ends_plain : (answers : List ℕ → Option (List ℕ) → Type 0) (k : ℕ) (is : Status) (before now : RunWorld) → Ends answers k is before now → (m : Model) → Opens before.moment.content m → (is ≡ status.TooLong → ⊥) → (is ≡ status.ReadFault → ⊥) → (is ≡ status.WriteFault → ⊥) → (is ≡ status.StoreFault → ⊥)
     → IsPlain is
-ends_plain k status.Good before now ends m opens long read write store = tt
-ends_plain k status.SomeRefused before now ends m opens long read write store = tt
-ends_plain k status.NoMem before now ends m opens long read write store = tt
-ends_plain k status.Usage before now ends m opens long read write store = ends
-ends_plain k status.ReadFault before now ends m opens long read write store = read refl
-ends_plain k status.WriteFault before now ends m opens long read write store = write refl
-ends_plain k status.StoreFault before now ends m opens long read write store = store refl
-ends_plain k status.TooLong before now ends m opens long read write store = long refl
-ends_plain k status.Damaged before now ends m opens long read write store = sound k ends.damage before _ ends.broken m opens
+ends_plain answers k status.Good before now ends m opens long read write store = tt
+ends_plain answers k status.SomeRefused before now ends m opens long read write store = tt
+ends_plain answers k status.NoMem before now ends m opens long read write store = tt
+ends_plain answers k status.Usage before now ends m opens long read write store = ends
+ends_plain answers k status.ReadFault before now ends m opens long read write store = read refl
+ends_plain answers k status.WriteFault before now ends m opens long read write store = write refl
+ends_plain answers k status.StoreFault before now ends m opens long read write store = store refl
+ends_plain answers k status.TooLong before now ends m opens long read write store = long refl
+ends_plain answers k status.Damaged before now ends m opens long read write store = sound k ends.damage before _ ends.broken m opens

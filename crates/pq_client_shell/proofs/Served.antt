@@ -1,5 +1,5 @@
 -- The pieces before the first write, made one after the other.
-use Rattle.std.proofs.Common.{◌≡◌, ℕ, ◌+◌, ◌≤◌, ◌<◌, Bool, List, [], ◌∷◌, ◌++◌, length, take, drop, get_or, sym, ap, ◌∙◌, subst, arith}
+use Rattle.std.proofs.Common.{◌≡◌, ℕ, ◌+◌, ◌≤◌, ◌<◌, Bool, Option, List, [], ◌∷◌, ◌++◌, length, take, drop, get_or, sym, ap, ◌∙◌, subst, arith}
 use Rattle.std.proofs.lemmas.List.{take_more, take_all, take-append-drop, map-append, length-map, length-take-le}
 use Rattle.pq_fill.specs.declared.words.Form.TheVariants.{Run}
 use Rattle.pq_schema.specs.Schema.{Schema}
@@ -28,9 +28,9 @@ three : (ps : List Piece) (i : ℕ) (p : Piece) → i < length ps → p ≡ get_
 three ps i p short is =
     ap (λ xs. xs ++ cut_items (drop (i + 1) ps)) (cut_more ps i p short is) ∙ sym (map-append Cut (take (i + 1) ps) (drop (i + 1) ps)) ∙ ap cut_items (take-append-drop (i + 1) ps)
 
-pub stopped_among : {stop : Stop} {s t : Schema} {a b c : Moment} {y y' : Bool} (ps : List Piece) (i count : ℕ) (p : Piece) → i < length ps → p ≡ get_or ps i p → count ≡ i
-    → ServedItems Run s t a b 1 (cut_items (take i ps)) y y' → StoppedItem Run stop t b c (count + 1) (Cut p ∷ []) → StoppedItem Run stop s a c 1 (cut_items ps)
-stopped_among {stop = stop} {s = s} {t = t} {a = a} {b = b} {c = c} ps i count p short is same so_far one =
+pub stopped_among : {answers : List ℕ → Option (List ℕ) → Type 0} {stop : Stop} {s t : Schema} {a b c : Moment} {y y' : Bool} (ps : List Piece) (i count : ℕ) (p : Piece) → i < length ps → p ≡ get_or ps i p → count ≡ i
+    → ServedItems Run s t a b 1 (cut_items (take i ps)) y y' → StoppedItem answers Run stop t b c (count + 1) (Cut p ∷ []) → StoppedItem answers Run stop s a c 1 (cut_items ps)
+stopped_among {answers = answers} {stop = stop} {s = s} {t = t} {a = a} {b = b} {c = c} ps i count p short is same so_far one =
     let number : count + 1 ≡ 1 + length (cut_items (take i ps)) = omega (arith, same, cut_long ps i short) in
-    subst (λ items. StoppedItem Run stop s a c 1 items) (three ps i p short is)
-    (Stopped-before (cut_items (drop (i + 1) ps)) (Stopped-after so_far.made (subst (λ n. StoppedItem Run stop t b c n (Cut p ∷ [])) number one)))
+    subst (λ items. StoppedItem answers Run stop s a c 1 items) (three ps i p short is)
+    (Stopped-before (cut_items (drop (i + 1) ps)) (Stopped-after so_far.made (subst (λ n. StoppedItem answers Run stop t b c n (Cut p ∷ [])) number one)))

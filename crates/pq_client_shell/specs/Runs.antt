@@ -181,9 +181,10 @@ pub record HaltsBehind (k : ℕ) (first : Schema) (script : Script) (stop : Stop
   pub halts : HaltsGathered k last script stop stood now
 
 -- the run stopped among the pieces before the first write, or behind them
-abbrev pub HaltsRead : ℕ → Schema → Script → Stop → Moment → Moment → Type 0
-HaltsRead k first script stop from now =
-    StoppedItem Run stop first from now 1 (cut_items (front_of script.pieces)) ⊎ HaltsBehind k first script stop from now
+abbrev pub HaltsRead : (List ℕ → Option (List ℕ) → Type 0) → ℕ → Schema → Script → Stop → Moment → Moment → Type 0
+HaltsRead answers k first script stop from now =
+    StoppedItem answers Run stop first from now 1 (cut_items (front_of script.pieces))
+    ⊎ HaltsBehind k first script stop from now
 
 -- ---- how far a run came
 
@@ -213,35 +214,38 @@ pub record StopsEarly (stop : Stop) (before now : RunWorld) : Type 0 where
   pub silent : now.moment.held ≡ before.moment.held
 
 -- among the pieces
-pub record StopsAmong (k : ℕ) (stop : Stop) (before now : RunWorld) : Type 0 where
+pub record StopsAmong (answers : List ℕ → Option (List ℕ) → Type 0) (k : ℕ) (stop : Stop)
+    (before now : RunWorld) : Type 0 where
   pub script : Script
   pub opened : Opened before now.left script
-  pub halts : HaltsRead k opened.first script stop (stood_at opened) now.moment
+  pub halts : HaltsRead answers k opened.first script stop (stood_at opened) now.moment
 
-pub data BrokenClients (k : ℕ) (stop : Stop) (before now : RunWorld) : Type 0 where
-  Early : StopsEarly stop before now → BrokenClients k stop before now
-  Among : StopsAmong k stop before now → BrokenClients k stop before now
+pub data BrokenClients (answers : List ℕ → Option (List ℕ) → Type 0) (k : ℕ) (stop : Stop)
+    (before now : RunWorld) : Type 0 where
+  Early : StopsEarly stop before now → BrokenClients answers k stop before now
+  Among : StopsAmong answers k stop before now → BrokenClients answers k stop before now
 
 -- damage was found, and so much of the line that names its key is out
-pub record NamesDamage (k : ℕ) (IsTail : List ℕ → List ℕ → Type 0) (before now : RunWorld) : Type 0 where
+pub record NamesDamage (answers : List ℕ → Option (List ℕ) → Type 0) (k : ℕ)
+    (IsTail : List ℕ → List ℕ → Type 0) (before now : RunWorld) : Type 0 where
   pub damage : Damage
   pub held : Option (List ℕ)
   pub line : List ℕ
-  pub broken : BrokenClients k (stops.Damaged damage) before (written_world now held)
+  pub broken : BrokenClients answers k (stops.Damaged damage) before (written_world now held)
   pub tail : IsTail line (damage_line damage.key)
   pub text : now.moment.held ≡ append_known held line
 
 -- ---- each status
 
-abbrev pub Ends : ℕ → Status → RunWorld → RunWorld → Type 0
-Ends k status.Good before now = FinishedClients k Whole false before now
-Ends k status.SomeRefused before now = FinishedClients k Whole true before now
-Ends k status.Usage before now = ⊥
-Ends k status.ReadFault before now = (refused : Bool) × FinishedClients k Faulted refused before now
-Ends k status.WriteFault before now =
-    BrokenClients k stops.WriteFailed before now ⊎ NamesDamage k IsCut before now
-Ends k status.StoreFault before now = BrokenClients k stops.StoreFailed before now
-Ends k status.Damaged before now = NamesDamage k (λ line whole. line ≡ whole) before now
-Ends k status.NoMem before now =
-    BrokenClients k stops.NoMem before now ⊎ NamesDamage k (λ line whole. line ≡ []) before now
-Ends k status.TooLong before now = (refused : Bool) × FinishedClients k TooLong refused before now
+abbrev pub Ends : (List ℕ → Option (List ℕ) → Type 0) → ℕ → Status → RunWorld → RunWorld → Type 0
+Ends answers k status.Good before now = FinishedClients k Whole false before now
+Ends answers k status.SomeRefused before now = FinishedClients k Whole true before now
+Ends answers k status.Usage before now = ⊥
+Ends answers k status.ReadFault before now = (refused : Bool) × FinishedClients k Faulted refused before now
+Ends answers k status.WriteFault before now =
+    BrokenClients answers k stops.WriteFailed before now ⊎ NamesDamage answers k IsCut before now
+Ends answers k status.StoreFault before now = BrokenClients answers k stops.StoreFailed before now
+Ends answers k status.Damaged before now = NamesDamage answers k (λ line whole. line ≡ whole) before now
+Ends answers k status.NoMem before now =
+    BrokenClients answers k stops.NoMem before now ⊎ NamesDamage answers k (λ line whole. line ≡ []) before now
+Ends answers k status.TooLong before now = (refused : Bool) × FinishedClients k TooLong refused before now

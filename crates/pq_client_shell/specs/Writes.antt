@@ -16,6 +16,7 @@ use Rattle.pq_tallies.specs.Writes.{written_table}
 -- an INSERT, UPDATE or DELETE
 abbrev pub as_write : Statement → Option WriteDef
 as_write (statement.Write def) = Some def
+as_write (statement.Batch defs) = None
 as_write (statement.Create def) = None
 as_write (statement.Prepare name from) = None
 as_write (statement.Explain from) = None

@@ -35,7 +35,7 @@ pub fn run_front<S: Store<L>, O: Sink, L: Ledger>(
         (moment (S.content store.old) (O.held sink.old) meter.old)
         (moment (S.content store.new) (O.held sink.new) meter.new)
         1 (cut_items pieces.now) false front.refused) }
-    ensures err { IfErr result (λ stop. StoppedItem Form.Run stop session
+    ensures err { IfErr result (λ stop. StoppedItem S.answers Form.Run stop session
         (moment (S.content store.old) (O.held sink.old) meter.old)
         (moment (S.content store.new) (O.held sink.new) meter.new)
         1 (cut_items pieces.now)) }

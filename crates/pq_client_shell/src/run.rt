@@ -65,7 +65,7 @@ fn run_read<S: Store<L>, O: Sink, L: Ledger>(
     ensures ok { IfOk result (λ ended. MadeRead k session script.now ended
         (moment (S.content store.old) (O.held sink.old) meter.old)
         (moment (S.content store.new) (O.held sink.new) meter.new)) }
-    ensures err { IfErr result (λ stop. HaltsRead k session script.now stop
+    ensures err { IfErr result (λ stop. HaltsRead S.answers k session script.now stop
         (moment (S.content store.old) (O.held sink.old) meter.old)
         (moment (S.content store.new) (O.held sink.new) meter.new)) }
     ensures causes { Causes (S.faults store.old) (S.faults store.new) (O.faults sink.old) (O.faults sink.new) result }
@@ -95,7 +95,7 @@ fn run_script<S: Store<L>, I: Source, O: Sink, L: Ledger>(
     ensures ok { IfOk result (λ ended. FinishedClients k ended.ending ended.refused
         (run_world (I.left source.old) (S.content store.old) (O.held sink.old) meter.old)
         (run_world (I.left source.new) (S.content store.new) (O.held sink.new) meter.new)) }
-    ensures err { IfErr result (λ stop. BrokenClients k stop
+    ensures err { IfErr result (λ stop. BrokenClients S.answers k stop
         (run_world (I.left source.old) (S.content store.old) (O.held sink.old) meter.old)
         (run_world (I.left source.new) (S.content store.new) (O.held sink.new) meter.new)) }
     ensures causes { Causes (S.faults store.old) (S.faults store.new) (O.faults sink.old) (O.faults sink.new) result }
@@ -131,7 +131,7 @@ pub fn run_piql_clients<S: Store<L>, I: Source, O: Sink, L: Ledger>(
     sink: &mut O,
     meter: &mut Meter<L>,
 ) -> Status
-    ensures ends { (k : ℕ) → AreWords k words.now → Ends k result
+    ensures ends { (k : ℕ) → AreWords k words.now → Ends S.answers k result
         (run_world (I.left source.old) (S.content store.old) (O.held sink.old) meter.old)
         (run_world (I.left source.new) (S.content store.new) (O.held sink.new) meter.new) }
     ensures usage { result ≡ Status.Usage ↔ ((k : ℕ) → ¬ AreWords k words.now) }
@@ -173,7 +173,7 @@ fn run<S: Store<L>, I: Source, O: Sink, L: Ledger>(
 ) -> Status
     requires some { 1 ≤ k }
     requires seats { k ≤ 16 }
-    ensures ends { Ends k result
+    ensures ends { Ends S.answers k result
         (run_world (I.left source.old) (S.content store.old) (O.held sink.old) meter.old)
         (run_world (I.left source.new) (S.content store.new) (O.held sink.new) meter.new) }
     ensures read_fault { result ≡ Status.ReadFault → HasRisen (I.faults source.old) (I.faults source.new) }

@@ -165,7 +165,7 @@ module _ (number : ℕ) (def : CounterDef) where
     counter_done old mid now before between after n counted zero same takes puts charged =
         let ops = ap (λ (c : Counts). c.ops) charged in
         let entries = ap (λ (c : Counts). c.entries) charged in
-        define_done (bound 2 1) number [] (action.Counts def) old now schema next (counter_defines old n counted zero) refl (λ reads. reads) refl
+        define_done (bound 2 1) number [] (action.Counts def) old now schema next (counter_defines old n counted zero) refl (λ reads. reads) refl (λ report. tt)
         (used_numbers 2 0) before after (lit≤ tt) (lit≤ tt) (omega (arith, ops, takes.ops_are)) (omega (arith, entries, takes.entries_are, zero))
         (subst (λ (o : Option Content). PutsNew true (last_key next) (last_value next) o now) same puts)
 
@@ -177,7 +177,7 @@ module _ (number : ℕ) (def : CounterDef) where
     counter_broke old mid now before between after n error counted zero same takes may sound within shows kept =
         let few_ops = within.ops in
         let few_entries = within.entries in
-        define_broken (bound 2 1) number [] (action.Counts def) old now schema next (counter_defines old n counted zero) refl (λ reads. reads) refl before after error tt
+        define_broken (bound 2 1) number [] (action.Counts def) old now schema next (counter_defines old n counted zero) refl (λ reads. reads) refl (λ report. tt) before after error tt
         (subst (λ (o : Option Content). MayPut (last_key next) (last_value next) o now) same may)
         (subst (λ (o : Option Content). IfSome o (λ pairs. get pairs (last_key next) ≡ None → IsUndamaged error)) same sound)
         (record { ops = omega (arith, takes.ops_are, few_ops); entries = omega (arith, takes.entries_are, zero, few_entries) })

@@ -41,6 +41,7 @@ use Rattle.pq_schema.specs.Tables.{table_at, no_table}
 use Rattle.pq_catalog.specs.Extends.{Extends}
 use Rattle.pq_intent.specs.Spending.{TakesAtMost}
 use Rattle.pq_reports.specs.Promise.{OnlyReads, DoneStatement as Promised, BrokenStatement, LacksMemory, Promises, IsBound, IsWithinFixed}
+use Rattle.pq_reports.specs.Refusing.{IsUnread}
 use Rattle.pq_reports.specs.Reports.{define_report, used_numbers}
 use Rattle.pq_catalog.specs.Stands.{HoldsModel, Stands, content_of, value_at, last_key, last_value}
 use Rattle.pq_builds.specs.Bounds.{bound}
@@ -53,7 +54,7 @@ use Rattle.pq_tallies.specs.Defined.{counters_in}
 use Rattle.pq_catalog.proofs.Definitions.{few_column, few_query, few_table, keeps_column, next_absent, put_column, put_table, put_query}
 use Rattle.pq_catalog.proofs.Standing.{settled_opens}
 use Rattle.pq_catalog.proofs.Made.{made_of, made_room, small_of}
-use Rattle.pq_reports.proofs.Promises.{damaged_kept, shown_still, within_step}
+use Rattle.pq_reports.proofs.Promises.{damaged_kept, shown_for, still_for, within_step}
 
 -- one write makes the step, which leads to these definitions and has this bound
 pub record Defines (most : Bound) (m : Model) (next : Schema) (number : ℕ) (lines : List Line) (made : Step) : Type 0 where
@@ -133,7 +134,7 @@ present_shown (Some content) schema (broke.Damaged damage) shows = inr (inr (inr
 
 module _ (most : Bound) (number : ℕ) (lines : List Line) (action : Action) (old now : Option Content) (schema next : Schema)
     (defines : (m : Model) → Stands old schema m → Defines most m next number lines (action_step m number action))
-    (one : action_bound schema action ≡ Some most) (writes : OnlyReads (Ok action) → ⊥) (behind : next ≡ action_schema schema action) where
+    (one : action_bound schema action ≡ Some most) (writes : OnlyReads (Ok action) → ⊥) (behind : next ≡ action_schema schema action) (other : (report : Report) → IsUnread number (Ok action) report) where
   added : (m : Model) → Stands old schema m → now ≡ Some (insert (content_of m) (last_key next) (last_value next)) → HoldsModel now (action_step m number action).model
   added m s is =
       let d = defines m s in
@@ -158,7 +159,7 @@ module _ (most : Bound) (number : ℕ) (lines : List Line) (action : Action) (ol
     refused = λ refusal. absurd refusal;
     accepted = λ _. behind;
     numbered = refl;
-    unread = tt;
+    unread = other (report_with spent);
     can = tt;
     reads = λ reads. absurd (writes reads);
   }
@@ -179,8 +180,8 @@ module _ (most : Bound) (number : ℕ) (lines : List Line) (action : Action) (ol
     kept = damaged_kept schema (Ok action) old now broke same;
     memory = λ m s. lacks;
     reads = λ reads. absurd (writes reads);
-    shown = here more shows;
-    lasting = shown_still old now schema broke same (here more shows);
+    shown = shown_for (Ok action) old schema broke (here more shows);
+    lasting = still_for (Ok action) old now schema broke same (shown_for (Ok action) old schema broke (here more shows));
   }
     where
       here : length schema.definitions + 1 ≡ length next.definitions → IfSome old (λ pairs. IfDamaged (IsPresent (last_key next) pairs) broke) → IfSome old (λ content. TellsEvidence schema content broke)
@@ -215,13 +216,13 @@ IsWritten old now next number lines before after result =
     × IfErr result (IfDamagedSame old now)
 
 written_as : (action : Action) (old now : Option Content) (schema next : Schema) (number : ℕ) (lines : List Line) (before after : Counts) (result : Result (Schema × Report) Broke)
-    → ((m : Model) → Stands old schema m → Defines (bound 1 0) m next number lines (action_step m number action)) → action_bound schema action ≡ Some (bound 1 0) → (OnlyReads (Ok action) → ⊥) → ((broke : Broke) → LacksMemory (Ok action) old now broke) → next ≡ action_schema schema action
+    → ((m : Model) → Stands old schema m → Defines (bound 1 0) m next number lines (action_step m number action)) → action_bound schema action ≡ Some (bound 1 0) → (OnlyReads (Ok action) → ⊥) → ((broke : Broke) → LacksMemory (Ok action) old now broke) → next ≡ action_schema schema action → ((report : Report) → IsUnread number (Ok action) report)
     → length schema.definitions + 1 ≡ length next.definitions → IsWritten old now next number lines before after result → Promises number (Ok action) old now schema before after result
-written_as action old now schema next number lines before after (Ok made) defines one writes lacks behind more h =
+written_as action old now schema next number lines before after (Ok made) defines one writes lacks behind other more h =
     rw (h.0.0, h.0.1, h.4)
-    (define_done (bound 1 0) number lines action old now schema next defines one writes behind (used_numbers 1 0) before (charged_counts before 0) (lit≤ tt) (lit≤ tt) refl refl h.1)
-written_as action old now schema next number lines before after (Err broke) defines one writes lacks behind more h =
-    define_broken (bound 1 0) number lines action old now schema next defines one writes behind before after broke (lacks broke) h.2 h.3 h.5 more h.6 h.7
+    (define_done (bound 1 0) number lines action old now schema next defines one writes behind other (used_numbers 1 0) before (charged_counts before 0) (lit≤ tt) (lit≤ tt) refl refl h.1)
+written_as action old now schema next number lines before after (Err broke) defines one writes lacks behind other more h =
+    define_broken (bound 1 0) number lines action old now schema next defines one writes behind other before after broke (lacks broke) h.2 h.3 h.5 more h.6 h.7
 
 pub table_written : (old now : Option Content) (schema planned : Schema) (number : ℕ) (def : TableDef) → IsTableDef def → (t : ℕ) (before after : Counts) (result : Result (Schema × Report) Broke)
     → Extends schema def planned (Ok t) → IsWritten old now planned number (table_lines (table_at planned.tables t)) before after result
@@ -233,7 +234,7 @@ table_written old now schema planned number def is_def t before after result e a
     let lined = subst (λ (x : Table). IsWritten old now next number (table_lines x) before after result) (last_table schema.tables table t e.3) there in
     subst (λ (r : Result Table Refusal). Promises number (action_from Creates r) old now schema before after result) (sym e.1)
     (written_as (Creates table) old now schema next number (table_lines table) before after result (table_defines old schema number def table is_def e.1)
-    refl (λ reads. reads) (λ broke. tt) refl (one_more schema.definitions (OfTable (length schema.tables + 1) (length table.columns) (length table.indexes))) lined)
+    refl (λ reads. reads) (λ broke. tt) refl (λ report. tt) (one_more schema.definitions (OfTable (length schema.tables + 1) (length table.columns) (length table.indexes))) lined)
 
 -- ---- columns
 
@@ -253,7 +254,7 @@ column_written old now schema planned number def is_def n before after result ad
     let is : IsAddition schema def next = record { names = is_def; fits = adds.fits; accepted = made } in
     subst (λ (r : Result Schema Refusal). Promises number (action_from (λ next. Adds def) r) old now schema before after result) (sym made)
     (written_as (Adds def) old now schema next number [] before after result (column_defines old schema number def is)
-    refl (λ reads. reads) (λ broke. tt) refl (one_more schema.definitions (OfColumn (altered_table schema def) (length (table_at schema.tables (altered_table schema def)).columns)))
+    refl (λ reads. reads) (λ broke. tt) refl (λ report. tt) (one_more schema.definitions (OfColumn (altered_table schema def) (length (table_at schema.tables (altered_table schema def)).columns)))
     (subst (λ (s : Schema). IsWritten old now s number [] before after result) adds.added all))
 
 -- ---- queries
@@ -275,5 +276,5 @@ module _ (schema : Schema) (number : ℕ) (query : Query) (best : Candidate) whe
       → Promises number (Ok (Prepares plain)) old now schema before after result
   query_written old now before after result lines is lined all =
       written_as (Prepares plain) old now schema (with_query schema query None) number (query_lines schema.tables plain) before after result (query_defines old is)
-      refl (λ reads. reads) (λ broke. tt) refl (one_more schema.definitions (OfQuery query None))
+      refl (λ reads. reads) (λ broke. tt) refl (λ report. tt) (one_more schema.definitions (OfQuery query None))
       (subst (λ (ls : List Line). IsWritten old now (with_query schema query None) number ls before after result) lined all)

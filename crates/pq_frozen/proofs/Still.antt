@@ -13,7 +13,7 @@ use Rattle.pq_store.specs.Breaks.{IsUndamaged}
 use Rattle.pq_store.specs.declared.damage.Broke.{Broke}
 use Rattle.pq_store.specs.declared.damage.Broke.TheVariants.{Failed, NoMem, Damaged}
 use Rattle.pq_opening.specs.declared.begun.Begun.{Begun}
-use Rattle.pq_statement.specs.Actions.{Action, Creates, Adds, Writes, Prepares, Explains, Runs, Counts, Reads, Shows, Selects, action_of}
+use Rattle.pq_statement.specs.Actions.{Action, Creates, Adds, Writes, Batches, Misreads, Prepares, Explains, Runs, Counts, Reads, Shows, Selects, action_of}
 use Rattle.pq_reports.specs.Matches.{Matches}
 use Rattle.pq_catalog.specs.Model.{Model}
 use Rattle.pq_opening.specs.Opening.{IsOpening, opening_of}
@@ -31,6 +31,8 @@ unfolding read_step
 stays m number (Ok (Creates table)) reads = absurd reads
 stays m number (Ok (Adds def)) reads = absurd reads
 stays m number (Ok (Writes write)) reads = absurd reads
+stays m number (Ok (Batches writes)) reads = absurd reads
+stays m number (Ok (Misreads place cause)) reads = refl
 stays m number (Ok (Prepares plan)) reads = absurd reads
 stays m number (Ok (Explains plan)) reads = refl
 stays m number (Ok (Runs running)) reads = refl

@@ -68,6 +68,7 @@ module _ (schema : Schema) (text : List ℕ) where
   asked_with (statement.Explain from) = explained_select (select_at (drop from (shapes_of text tokens)))
   asked_with (statement.Create def) = refl
   asked_with (statement.Write write) = refl
+  asked_with (statement.Batch writes) = refl
   asked_with (statement.Run name values after) = refl
   asked_with (statement.Alter def) = refl
   asked_with (statement.Counter def) = refl

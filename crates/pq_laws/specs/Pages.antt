@@ -10,7 +10,7 @@ use Rattle.pq_plan.specs.Answer.{Question, answered, position, selected_values}
 use Rattle.pq_running.specs.Running.{last_of}
 use Rattle.pq_running.specs.Running.{Running, running_of}
 use Rattle.pq_print.specs.declared.report.End.{End}
-use Rattle.pq_print.specs.declared.report.End.TheVariants.{Done, Refused, Rows}
+use Rattle.pq_print.specs.declared.report.End.TheVariants.{Done, InBatch, Refused, Rows}
 use Rattle.pq_print.specs.declared.report.Line.{Line}
 use Rattle.pq_print.specs.declared.report.Line.TheVariants.{Row}
 use Rattle.pq_print.specs.declared.report.Report.{Report}
@@ -42,6 +42,7 @@ abbrev pub next_in : End → Option (List ℕ)
 next_in (Rows count cursor) = cursor
 next_in Done = None
 next_in (Refused why) = None
+next_in (InBatch place cause) = None
 
 -- RUN after RUN of a name, from one with this cursor on, each with the cursor of the report before it, up to the first
 -- report that has none

@@ -23,7 +23,7 @@ use Rattle.pq_text.specs.declared.token.Token.{Token}
 use Rattle.pq_def_read.specs.declared.statement.Statement.{Statement}
 use Rattle.pq_def_read.specs.declared.statement.Statement.TheVariants as statement
 use Rattle.pq_query_read.specs.Trying.{◌>>=◌, passed_unless}
-use Rattle.pq_statement.specs.Actions.{Action, Creates, Adds, Writes, Prepares, Explains, Runs, Counts, Reads, Shows, Selects, action_from, action_of, asked_by}
+use Rattle.pq_statement.specs.Actions.{Action, Creates, Adds, Writes, Batches, Misreads, Prepares, Explains, Runs, Counts, Reads, Shows, Selects, action_from, action_of, asked_by}
 use Rattle.pq_check.specs.Checks.{check_step, checked_as}
 use Rattle.pq_planning.specs.Planned.{IsComputed, IsPlanned}
 use Rattle.pq_planning.specs.declared.planning.PlannedQuery.{PlannedQuery}
@@ -31,6 +31,7 @@ use Rattle.pq_planning.specs.Planning.{PlannedDefinition, arranged_from, as_it_i
 use Rattle.pq_print.specs.Report.{is_refusal, printed_report}
 use Rattle.pq_print.specs.declared.report.Report.{Report}
 use Rattle.pq_text.specs.declared.piece.Piece.{Piece}
+use Rattle.pq_statement.proofs.Batches.{batch_cases}
 use Rattle.pq_plan_report.specs.Plans.{IsSummed, TellsAsked, TellsFound, asked_plan, lines_of, plan_text}
 use Rattle.pq_plan_report.specs.Told.{report_of, told_piece, told_plan}
 
@@ -97,6 +98,7 @@ IsOther (statement.Create def) = Unit {0}
 IsOther (statement.Alter def) = Unit {0}
 IsOther (statement.Prepare name from) = ⊥
 IsOther (statement.Write write) = Unit {0}
+IsOther (statement.Batch writes) = Unit {0}
 IsOther (statement.Explain from) = ⊥
 IsOther (statement.Run name params after) = Unit {0}
 IsOther (statement.Counter def) = Unit {0}
@@ -114,6 +116,7 @@ module _ (schema : Schema) where
   by_other text tokens (statement.Alter def) is = none_told (λ (next : Schema). Adds def) _ (λ _. refl)
   by_other text tokens (statement.Prepare name from) is = absurd is
   by_other text tokens (statement.Write write) is = none_told Writes _ (λ _. refl)
+  by_other text tokens (statement.Batch defs) is = batch_cases schema defs (λ asked. TellsAsked schema asked []) (λ writes. refl) (λ place cause. refl) (λ why. tt)
   by_other text tokens (statement.Explain from) is = absurd is
   by_other text tokens (statement.Run name params after) is = none_told Runs _ (λ _. refl)
   by_other text tokens (statement.Counter def) is = none_told (λ (next : Schema). Counts def) _ (λ _. refl)
@@ -138,6 +141,8 @@ module _ (schema : Schema) where
   summed_of (Ok (Creates table)) told tells = tt
   summed_of (Ok (Adds def)) told tells = tt
   summed_of (Ok (Writes write)) told tells = tt
+  summed_of (Ok (Batches writes)) told tells = tt
+  summed_of (Ok (Misreads place cause)) told tells = tt
   summed_of (Ok (Prepares plan)) told tells = tells.sums
   summed_of (Ok (Explains plan)) told tells = tells.sums
   summed_of (Ok (Runs running)) told tells = tt
@@ -151,6 +156,8 @@ module _ (schema : Schema) where
   plan_of (Creates table) told tells = tells
   plan_of (Adds def) told tells = tells
   plan_of (Writes write) told tells = tells
+  plan_of (Batches writes) told tells = tells
+  plan_of (Misreads place cause) told tells = tells
   plan_of (Prepares plan) told tells = tells.text_is
   plan_of (Explains plan) told tells = tells.text_is
   plan_of (Runs running) told tells = tells

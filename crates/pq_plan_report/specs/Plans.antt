@@ -7,7 +7,7 @@ use Rattle.pq_plan.specs.Nodes.{plan_nodes}
 use Rattle.pq_plan_lines.specs.Lines.{plan_lines, sum_of}
 use Rattle.pq_plan_lines.specs.Texts.{line_text}
 use Rattle.pq_plan_lines.specs.declared.node_line.NodeLine.{NodeLine}
-use Rattle.pq_statement.specs.Actions.{Action, Creates, Adds, Writes, Prepares, Explains, Runs, Counts, Reads, Shows, Selects}
+use Rattle.pq_statement.specs.Actions.{Action, Creates, Adds, Writes, Batches, Misreads, Prepares, Explains, Runs, Counts, Reads, Shows, Selects}
 use Rattle.pq_planning.specs.Planned.{IsPlanned}
 use Rattle.pq_planning.specs.Planning.{PlannedDefinition}
 use Rattle.pq_planning.specs.declared.planning.PlannedQuery.{PlannedQuery}
@@ -24,6 +24,8 @@ abbrev pub asked_plan : Schema → Result Action Refusal → List ℕ
 asked_plan schema (Ok (Creates table)) = []
 asked_plan schema (Ok (Adds def)) = []
 asked_plan schema (Ok (Writes write)) = []
+asked_plan schema (Ok (Batches writes)) = []
+asked_plan schema (Ok (Misreads place cause)) = []
 asked_plan schema (Ok (Prepares plan)) = plan_text schema.tables plan
 asked_plan schema (Ok (Explains plan)) = plan_text schema.tables plan
 asked_plan schema (Ok (Runs running)) = []
@@ -44,6 +46,8 @@ abbrev pub IsSummed : Schema → Result Action Refusal → Type 0
 IsSummed schema (Ok (Creates table)) = Unit {0}
 IsSummed schema (Ok (Adds def)) = Unit {0}
 IsSummed schema (Ok (Writes write)) = Unit {0}
+IsSummed schema (Ok (Batches writes)) = Unit {0}
+IsSummed schema (Ok (Misreads place cause)) = Unit {0}
 IsSummed schema (Ok (Prepares plan)) = SumsToBound schema.tables plan
 IsSummed schema (Ok (Explains plan)) = SumsToBound schema.tables plan
 IsSummed schema (Ok (Runs running)) = Unit {0}
@@ -76,6 +80,8 @@ abbrev pub TellsAsked : Schema → Result Action Refusal → List ℕ → Type 0
 TellsAsked schema (Ok (Creates table)) text = text ≡ []
 TellsAsked schema (Ok (Adds def)) text = text ≡ []
 TellsAsked schema (Ok (Writes write)) text = text ≡ []
+TellsAsked schema (Ok (Batches writes)) text = text ≡ []
+TellsAsked schema (Ok (Misreads place cause)) text = text ≡ []
 TellsAsked schema (Ok (Prepares plan)) text = TellsPlan schema.tables plan text
 TellsAsked schema (Ok (Explains plan)) text = TellsPlan schema.tables plan text
 TellsAsked schema (Ok (Runs running)) text = text ≡ []

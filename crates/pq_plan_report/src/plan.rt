@@ -123,6 +123,7 @@ fn statement_plan(
         Statement::Create(_)
         | Statement::Alter(_)
         | Statement::Write(_)
+        | Statement::Batch(_)
         | Statement::Run { .. }
         | Statement::Counter(_)
         | Statement::Read { .. }

@@ -1,11 +1,12 @@
 -- Steps that change nothing, and the clauses on the step of a piece.
-use Rattle.std.proofs.Common.{◌≡◌, ℕ, ◌⊎◌, Bool, true, false, Option, Some, None, Result, Ok, Err, if◌then◌else◌, refl, sym, ap, ◌∙◌, subst, arith, inl, lit≤}
+use Rattle.std.proofs.Common.{◌≡◌, ℕ, ◌⊎◌, Bool, true, false, List, [], Option, Some, None, Result, Ok, Err, if◌then◌else◌, refl, sym, ap, ◌∙◌, subst, arith, inl, lit≤}
 use Rattle.std.specs.Prelude.{◌+◌, ◌*◌, ◌≤◌, nat_le, IfOk, IfErr, IfSome, OnErr}
 use Rattle.std.proofs.lemmas.Bool.{leb-true}
 use Rattle.std.proofs.lemmas.Option.{none-some, same_Some}
 use Rattle.pq_base.specs.declared.number.Bound.{Bound}
 use Rattle.pq_base.specs.declared.number.Used.{Used}
 use Rattle.pq_base.specs.declared.refusal.Refusal.{Refusal}
+use Rattle.pq_batch.specs.Batches.{Unmade, batch_bound, batch_effect}
 use Rattle.pq_builds.specs.Bounds.{bound, fixed_bound, prepare_bound}
 use Rattle.pq_builds.specs.Stages.{IsWithinBuild as BuildsWithin, build_ops}
 use Rattle.pq_schema.specs.Schema.{Schema}
@@ -23,14 +24,15 @@ use Rattle.pq_store.specs.Counts.{Counts}
 use Rattle.pq_store.specs.Content.{Content}
 use Rattle.pq_store.specs.declared.damage.Broke.{Broke}
 use Rattle.pq_store.specs.declared.damage.Broke.TheVariants as broke
+use Rattle.pq_store.specs.declared.damage.Damage.{Damage}
 use Rattle.pq_intent.specs.Changing.{IfDamagedSame}
 use Rattle.pq_statement.specs.Actions as action
-use Rattle.pq_statement.specs.Actions.{Action, Creates, Adds, Writes, Prepares, Explains, Runs, Reads, Shows, Selects, action_bound, action_schema, action_of, asked_bound, asked_schema, schema_after, statement_bound}
-use Rattle.pq_reports.specs.Evidence.{TellsEvidence}
+use Rattle.pq_statement.specs.Actions.{Action, Creates, Adds, Writes, Batches, Misreads, Prepares, Explains, Runs, Reads, Shows, Selects, action_bound, action_schema, action_of, asked_bound, asked_schema, schema_after, statement_bound}
+use Rattle.pq_reports.specs.Evidence.{IsEvidence, IsEvidenceFor, TellsEvidence, TellsEvidenceFor}
 use Rattle.pq_catalog.specs.Model.{Model}
 use Rattle.pq_catalog.specs.Stands.{HoldsModel, Stands, Opens}
 use Rattle.pq_planning.specs.Planning.{PlannedDefinition}
-use Rattle.pq_reports.specs.Step.{Step, action_step, acted_as, step, refusal_report, report_of, report_step, explanation, unread_report, crowded_refusal, crowding_refusal, counted_over, counter_step, effected_as, prepared_over, read_step, write_step}
+use Rattle.pq_reports.specs.Step.{Step, action_step, acted_as, step, refusal_report, report_of, report_step, explanation, misread_report, unread_report, batched_as, batch_step, crowded_refusal, crowding_refusal, counted_over, counter_step, effected_as, prepared_over, read_step, write_step}
 use Rattle.pq_statement.specs.Readings.{Reading}
 use Rattle.pq_text.specs.declared.piece.Piece.{Piece}
 use Rattle.pq_planning.specs.Lines.{show_lines}
@@ -38,7 +40,7 @@ use Rattle.pq_store.specs.Breaks.{IsUndamaged}
 use Rattle.pq_reports.specs.Matches.{Matches}
 use Rattle.pq_intent.specs.Spending.{TakesAtMost}
 use Rattle.pq_reports.specs.Promise.{DoneStatement, BrokenStatement, Promises, IsBound, IsRefusal, IsWithinFixed, KeepsDamaged, LacksMemory, OnlyReads, StopsAction, StopsAsked, StopsIndex}
-use Rattle.pq_reports.specs.Refusing.{CanEnd}
+use Rattle.pq_reports.specs.Refusing.{CanEnd, IsUnread}
 use Rattle.pq_catalog.proofs.Standing.{settled_opens}
 
 -- a statement that is refused before any call of the store changes nothing and uses nothing
@@ -67,6 +69,35 @@ sound_shown (Some content) schema broke.Failed sound = tt
 sound_shown (Some content) schema broke.NoMem sound = tt
 sound_shown (Some content) schema (broke.Damaged damage) sound = absurd sound
 
+-- and by whatever was asked for
+pub sound_for : (asked : Result Action Refusal) (old : Option Content) (schema : Schema) (broke : Broke) → IsUndamaged broke → IfSome old (λ content. TellsEvidenceFor asked schema content broke)
+sound_for asked None schema broke sound = tt
+sound_for asked (Some content) schema broke.Failed sound = tt
+sound_for asked (Some content) schema broke.NoMem sound = tt
+sound_for asked (Some content) schema (broke.Damaged damage) sound = absurd sound
+
+-- what shows in the content shows for whatever was asked
+evidence_for : (asked : Result Action Refusal) (schema : Schema) (content : Content) (damage : Damage) → IsEvidence schema content damage → IsEvidenceFor asked schema content damage
+evidence_for (Err why) schema content damage shows = shows
+evidence_for (Ok (Creates table)) schema content damage shows = shows
+evidence_for (Ok (Adds def)) schema content damage shows = shows
+evidence_for (Ok (Writes write)) schema content damage shows = shows
+evidence_for (Ok (Batches writes)) schema content damage shows = ([], shows)
+evidence_for (Ok (Misreads place cause)) schema content damage shows = shows
+evidence_for (Ok (Prepares plan)) schema content damage shows = shows
+evidence_for (Ok (Explains plan)) schema content damage shows = shows
+evidence_for (Ok (Runs running)) schema content damage shows = shows
+evidence_for (Ok (action.Counts def)) schema content damage shows = shows
+evidence_for (Ok (Reads reading)) schema content damage shows = shows
+evidence_for (Ok Shows) schema content damage shows = shows
+evidence_for (Ok (Selects plan)) schema content damage shows = shows
+
+pub shown_for : (asked : Result Action Refusal) (old : Option Content) (schema : Schema) (broke : Broke) → IfSome old (λ content. TellsEvidence schema content broke) → IfSome old (λ content. TellsEvidenceFor asked schema content broke)
+shown_for asked None schema broke shown = tt
+shown_for asked (Some content) schema broke.Failed shown = tt
+shown_for asked (Some content) schema broke.NoMem shown = tt
+shown_for asked (Some content) schema (broke.Damaged damage) shown = evidence_for asked schema content damage shown
+
 -- and nothing has to be kept
 pub sound_kept : (schema : Schema) (asked : Result Action Refusal) (old now : Option Content) (broke : Broke) → IsUndamaged broke → KeepsDamaged schema asked old now broke
 sound_kept schema asked None now broke sound = tt
@@ -83,6 +114,8 @@ action_same : (schema : Schema) (action : Action) (content : Content) (now : Opt
 action_same schema (Creates table) content now same = same
 action_same schema (Adds def) content now same = same
 action_same schema (Writes write) content now same = same
+action_same schema (Batches writes) content now same = same
+action_same schema (Misreads place cause) content now same = same
 action_same schema (Prepares plan) content now same = index_same schema plan.query plan.chosen.wanted content now same
 action_same schema (Explains plan) content now same = same
 action_same schema (Runs running) content now same = same
@@ -115,6 +148,10 @@ unchanged_lacks (Ok (Adds def)) old now broke same = tt
 unchanged_lacks (Ok (Writes write)) old now broke.Failed same = tt
 unchanged_lacks (Ok (Writes write)) old now broke.NoMem same = inl same
 unchanged_lacks (Ok (Writes write)) old now (broke.Damaged damage) same = tt
+unchanged_lacks (Ok (Batches writes)) old now broke.Failed same = tt
+unchanged_lacks (Ok (Batches writes)) old now broke.NoMem same = inl same
+unchanged_lacks (Ok (Batches writes)) old now (broke.Damaged damage) same = tt
+unchanged_lacks (Ok (Misreads place cause)) old now broke same = tt
 unchanged_lacks (Ok (Prepares plan)) old now broke same = tt
 unchanged_lacks (Ok (Explains plan)) old now broke same = tt
 unchanged_lacks (Ok (Runs running)) old now broke same = tt
@@ -130,6 +167,13 @@ shown_still old now schema broke.Failed same shown = sound_shown now schema brok
 shown_still old now schema broke.NoMem same shown = sound_shown now schema broke.NoMem tt
 shown_still old now schema (broke.Damaged damage) same shown =
     subst (λ (o : Option Content). IfSome o (λ content. TellsEvidence schema content (broke.Damaged damage))) (sym same) shown
+
+pub still_for : (asked : Result Action Refusal) (old now : Option Content) (schema : Schema) (broke : Broke) → IfDamagedSame old now broke → IfSome old (λ content. TellsEvidenceFor asked schema content broke)
+    → IfSome now (λ content. TellsEvidenceFor asked schema content broke)
+still_for asked old now schema broke.Failed same shown = sound_for asked now schema broke.Failed tt
+still_for asked old now schema broke.NoMem same shown = sound_for asked now schema broke.NoMem tt
+still_for asked old now schema (broke.Damaged damage) same shown =
+    subst (λ (o : Option Content). IfSome o (λ content. TellsEvidenceFor asked schema content (broke.Damaged damage))) (sym same) shown
 
 -- the bound that the definitions fix is that of the step
 prepared_bound : (m : Model) (number : ℕ) (plan : PlannedDefinition) (why : Option Refusal) → (prepared_over m number plan why).report.bound ≡ prepare_bound plan.chosen.wanted m.rows
@@ -148,6 +192,14 @@ written_bound : (m : Model) (number : ℕ) (write : Write) → (write_step m num
 unfolding write_step
 written_bound m number write = effected_bound m number (whole_bound m.schema write) (counted_effect m.schema m.rows write)
 
+batched_bound : (m : Model) (number : ℕ) (most : Bound) (made : Result Rows Unmade) → (batched_as m number most made).report.bound ≡ most
+batched_bound m number most (Ok rows) = refl
+batched_bound m number most (Err why) = refl
+
+batch_bound_is : (m : Model) (number : ℕ) (writes : List Write) → (batch_step m number writes).report.bound ≡ batch_bound m.schema writes
+unfolding batch_step
+batch_bound_is m number writes = batched_bound m number (batch_bound m.schema writes) (batch_effect m.schema m.rows writes)
+
 over_bound : (m : Model) (number : ℕ) (def : CounterDef) (why : Option Refusal) → (counted_over m number def why).report.bound ≡ bound 2 1
 over_bound m number def None = refl
 over_bound m number def (Some why) = refl
@@ -164,6 +216,8 @@ step_bound : (m : Model) (number : ℕ) (action : Action) (most : Bound) → act
 step_bound m number (Creates table) most is = same_Some _ _ is
 step_bound m number (Adds def) most is = same_Some _ _ is
 step_bound m number (Writes write) most is = written_bound m number write ∙ same_Some _ _ is
+step_bound m number (Batches writes) most is = batch_bound_is m number writes ∙ same_Some _ _ is
+step_bound m number (Misreads place cause) most is = same_Some _ _ is
 step_bound m number (Prepares plan) most is = prepared_bound m number plan (crowding_refusal m plan.chosen.wanted) ∙ index_bound plan.chosen.wanted m.rows most is
 step_bound m number (Explains plan) most is = same_Some _ _ is
 step_bound m number (Runs running) most is = same_Some _ _ is
@@ -226,15 +280,15 @@ broken_same number asked old schema counts broke sound = record {
   kept = same_kept schema asked old old broke refl;
   memory = λ m s. unchanged_lacks asked old old broke refl;
   reads = λ _. refl;
-  shown = sound_shown old schema broke sound;
-  lasting = sound_shown old schema broke sound;
+  shown = sound_for asked old schema broke sound;
+  lasting = sound_for asked old schema broke sound;
 }
 
 -- the same where the content is told to be as it was
 pub broken_kept : (number : ℕ) (asked : Result Action Refusal) (old now : Option Content) (schema : Schema) (before after : Counts) (broke : Broke)
     → now ≡ old → ((m : Model) → Stands old schema m → IsUndamaged broke) → IsWithinFixed (asked_bound schema asked) before after
     → ((m : Model) → Stands old schema m → TakesAtMost (acted_as m number asked).report.bound before after)
-    → IfSome old (λ content. TellsEvidence schema content broke) → BrokenStatement number asked old now schema before after broke
+    → IfSome old (λ content. TellsEvidenceFor asked schema content broke) → BrokenStatement number asked old now schema before after broke
 broken_kept number asked old now schema before after broke same sound within own shown = record {
   stopped = λ m s. inl (settled_opens (subst (λ o. HoldsModel o m) (sym same) s.settled));
   sound = sound;
@@ -244,12 +298,18 @@ broken_kept number asked old now schema before after broke same sound within own
   memory = λ m s. unchanged_lacks asked old now broke same;
   reads = λ _. same;
   shown = shown;
-  lasting = subst (λ (o : Option Content). IfSome o (λ content. TellsEvidence schema content broke)) (sym same) shown;
+  lasting = subst (λ (o : Option Content). IfSome o (λ content. TellsEvidenceFor asked schema content broke)) (sym same) shown;
 }
+
+-- what is refused before any call has just the report of its refusal
+pub unread_err : (number : ℕ) (asked : Result Action Refusal) (report : Report) → IsUnread number asked report → IfErr asked (λ why. report ≡ unread_report number why)
+unread_err number (Ok action) report unread = tt
+unread_err number (Err why) report unread = unread
 
 -- what is reported of the definitions alone makes no call of the store
 module _ (number : ℕ) (action : Action) (report : Schema → Report) (free : (schema : Schema) → (report schema).used ≡ record { ops = 0; entries = 0 })
-    (numbered : (schema : Schema) → (report schema).number ≡ number) (ended : (schema : Schema) → (report schema).end ≡ End.Done) (is : (m : Model) → action_step m number action ≡ report_step m (report m.schema)) where
+    (numbered : (schema : Schema) → (report schema).number ≡ number) (ended : (schema : Schema) → (report schema).end ≡ End.Done) (is : (m : Model) → action_step m number action ≡ report_step m (report m.schema))
+    (unread : (schema : Schema) → IsUnread number (Ok action) (report schema)) where
   pub unpaid_done : (old : Option Content) (schema : Schema) (counts : Counts) → action_bound schema action ≡ Some (report schema).bound → schema ≡ action_schema schema action
       → DoneStatement number (Ok action) old old schema schema counts counts (report schema)
   unpaid_done old schema counts most same =
@@ -267,7 +327,7 @@ module _ (number : ℕ) (action : Action) (report : Schema → Report) (free : (
         refused = λ _. (refl, refl);
         accepted = λ _. same;
         numbered = numbered schema;
-        unread = tt;
+        unread = unread schema;
         can = subst (CanEnd schema (Ok action)) (sym (ended schema)) tt;
         reads = λ _. refl;
       }
@@ -275,12 +335,31 @@ module _ (number : ℕ) (action : Action) (report : Schema → Report) (free : (
 -- SHOW tells the definitions
 pub shown_done : (number : ℕ) (old : Option Content) (schema : Schema) (counts : Counts)
     → DoneStatement number (Ok Shows) old old schema schema counts counts (report_of number (show_lines schema) End.Done (bound 0 0))
-shown_done number old schema counts = unpaid_done number Shows (λ s. report_of number (show_lines s) End.Done (bound 0 0)) (λ s. refl) (λ s. refl) (λ s. refl) (λ m. refl) old schema counts refl refl
+shown_done number old schema counts = unpaid_done number Shows (λ s. report_of number (show_lines s) End.Done (bound 0 0)) (λ s. refl) (λ s. refl) (λ s. refl) (λ m. refl) (λ s. tt) old schema counts refl refl
 
 -- EXPLAIN tells a query's plan
 pub explained_done : (number : ℕ) (plan : PlannedDefinition) (old : Option Content) (schema : Schema) (counts : Counts)
     → DoneStatement number (Ok (Explains plan)) old old schema schema counts counts (explanation schema.tables number plan)
-explained_done number plan old schema counts = unpaid_done number (Explains plan) (λ s. explanation s.tables number plan) (λ s. refl) (λ s. refl) (λ s. refl) (λ m. refl) old schema counts refl refl
+explained_done number plan old schema counts = unpaid_done number (Explains plan) (λ s. explanation s.tables number plan) (λ s. refl) (λ s. refl) (λ s. refl) (λ m. refl) (λ s. tt) old schema counts refl refl
+
+-- a batch of which a write is refused by reading makes no call
+pub misread_done : (number place : ℕ) (cause : Refusal) (old : Option Content) (schema : Schema) (counts : Counts)
+    → DoneStatement number (Ok (Misreads place cause)) old old schema schema counts counts (misread_report number place cause)
+misread_done number place cause old schema counts = record {
+  matches = λ m s. record { same = refl; ops = lit≤ tt; entries = lit≤ tt };
+  made = λ m s. s;
+  ops = omega arith;
+  entries = omega arith;
+  few_ops = lit≤ tt;
+  few_entries = lit≤ tt;
+  bound = refl;
+  refused = λ _. (refl, refl);
+  accepted = λ not. absurd (not tt);
+  numbered = refl;
+  unread = refl;
+  can = (refl, refl);
+  reads = λ _. refl;
+}
 
 -- ---- the clauses on the step of a piece
 
@@ -320,6 +399,7 @@ module _ (number : ℕ) (piece : Piece) (old now : Option Content) (schema : Sch
   next_by next End.Done refused accepted = accepted (λ none. none)
   next_by next (End.Rows count cursor) refused accepted = accepted (λ none. none)
   next_by next (End.Refused why) refused accepted = (refused tt).1
+  next_by next (End.InBatch place cause) refused accepted = (refused tt).1
 
   pub promised_next : (result : Result (Schema × Report) Broke) → Promised result → IfOk result (λ p. p.0 ≡ schema_after schema piece p.1)
   promised_next (Ok made) p = next_by made.0 made.1.end p.refused p.accepted
@@ -329,15 +409,15 @@ module _ (number : ℕ) (piece : Piece) (old now : Option Content) (schema : Sch
   promised_numbered (Ok made) p = p.numbered
   promised_numbered (Err broke) p = tt
 
-  pub promised_unread : (result : Result (Schema × Report) Broke) → Promised result → IfOk result (λ p. IfErr (action_of schema piece) (λ why. p.1 ≡ unread_report number why))
+  pub promised_unread : (result : Result (Schema × Report) Broke) → Promised result → IfOk result (λ p. IsUnread number (action_of schema piece) p.1)
   promised_unread (Ok made) p = p.unread
   promised_unread (Err broke) p = tt
 
-  pub promised_shown : (result : Result (Schema × Report) Broke) → Promised result → IfErr result (λ broke. IfSome old (λ content. TellsEvidence schema content broke))
+  pub promised_shown : (result : Result (Schema × Report) Broke) → Promised result → IfErr result (λ broke. IfSome old (λ content. TellsEvidenceFor (action_of schema piece) schema content broke))
   promised_shown (Ok made) p = tt
   promised_shown (Err broke) p = p.shown
 
-  pub promised_lasting : (result : Result (Schema × Report) Broke) → Promised result → IfErr result (λ broke. IfSome now (λ content. TellsEvidence schema content broke))
+  pub promised_lasting : (result : Result (Schema × Report) Broke) → Promised result → IfErr result (λ broke. IfSome now (λ content. TellsEvidenceFor (action_of schema piece) schema content broke))
   promised_lasting (Ok made) p = tt
   promised_lasting (Err broke) p = p.lasting
 

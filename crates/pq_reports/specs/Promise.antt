@@ -1,5 +1,5 @@
 -- What a call that makes a step promises.
-use Rattle.std.specs.Prelude.{◌≡◌, ℕ, ◌≤◌, ◌+◌, ◌⊎◌, Option, Some, None, Result, Ok, Err, IfErr, IfSome}
+use Rattle.std.specs.Prelude.{◌≡◌, ℕ, ◌≤◌, ◌+◌, ◌⊎◌, Option, Some, None, Result, Ok, Err, IfSome}
 use Rattle.pq_base.specs.declared.number.Bound.{Bound}
 use Rattle.pq_schema.specs.Schema.{Schema}
 use Rattle.pq_schema.specs.Tables.{table_at}
@@ -19,12 +19,12 @@ use Rattle.pq_store.specs.Content.{Content}
 use Rattle.pq_store.specs.declared.damage.Broke.{Broke}
 use Rattle.pq_store.specs.declared.damage.Broke.TheVariants.{NoMem}
 use Rattle.pq_statement.specs.Actions as action
-use Rattle.pq_statement.specs.Actions.{Action, Creates, Adds, Writes, Prepares, Explains, Runs, Reads, Shows, Selects, asked_bound, asked_schema}
-use Rattle.pq_reports.specs.Evidence.{TellsEvidence}
+use Rattle.pq_statement.specs.Actions.{Action, Creates, Adds, Writes, Batches, Misreads, Prepares, Explains, Runs, Reads, Shows, Selects, asked_bound, asked_schema}
+use Rattle.pq_reports.specs.Evidence.{TellsEvidenceFor}
 use Rattle.pq_catalog.specs.Model.{Model}
-use Rattle.pq_reports.specs.Refusing.{CanEnd}
+use Rattle.pq_reports.specs.Refusing.{CanEnd, IsUnread}
 use Rattle.pq_catalog.specs.Stands.{Stands, Opens, new_query_of}
-use Rattle.pq_reports.specs.Step.{acted_as, unread_report}
+use Rattle.pq_reports.specs.Step.{acted_as}
 use Rattle.pq_reports.specs.Matches.{Matches}
 use Rattle.pq_store.specs.Breaks.{IfDamaged, IsUndamaged}
 
@@ -42,12 +42,15 @@ abbrev pub IsRefusal : End → Type 0
 IsRefusal end.Done = ⊥
 IsRefusal (end.Rows count next) = ⊥
 IsRefusal (end.Refused why) = Unit {0}
+IsRefusal (end.InBatch place cause) = Unit {0}
 
 -- a statement that writes nothing: a RUN, a SELECT, a READ, an EXPLAIN, a SHOW, or what is refused before any call
 abbrev pub OnlyReads : Result Action Refusal → Type 0
 OnlyReads (Ok (Creates table)) = ⊥
 OnlyReads (Ok (Adds def)) = ⊥
 OnlyReads (Ok (Writes write)) = ⊥
+OnlyReads (Ok (Batches writes)) = ⊥
+OnlyReads (Ok (Misreads place cause)) = Unit {0}
 OnlyReads (Ok (Prepares plan)) = ⊥
 OnlyReads (Ok (Explains plan)) = Unit {0}
 OnlyReads (Ok (Runs running)) = Unit {0}
@@ -68,6 +71,8 @@ abbrev pub StopsAction : Schema → Action → Content → Option Content → Ty
 StopsAction schema (Creates table) content now = now ≡ Some content
 StopsAction schema (Adds def) content now = now ≡ Some content
 StopsAction schema (Writes write) content now = now ≡ Some content
+StopsAction schema (Batches writes) content now = now ≡ Some content
+StopsAction schema (Misreads place cause) content now = now ≡ Some content
 StopsAction schema (Prepares plan) content now = StopsIndex schema plan.query plan.chosen.wanted content now
 StopsAction schema (Explains plan) content now = now ≡ Some content
 StopsAction schema (Runs running) content now = now ≡ Some content
@@ -85,9 +90,10 @@ abbrev pub KeepsDamaged : Schema → Result Action Refusal → Option Content �
 KeepsDamaged schema asked old now broke =
     IfSome old (λ content. IfDamaged (λ damage. StopsAsked schema asked content now) broke)
 
--- a write for which memory was wanting isn't made: nothing is changed, or its intent stands
+-- a write or a batch for which memory was wanting isn't made: nothing is changed, or its intent stands
 abbrev pub LacksMemory : Result Action Refusal → Option Content → Option Content → Broke → Type 0
 LacksMemory (Ok (Writes write)) old now NoMem = (now ≡ old) ⊎ HasIntent now
+LacksMemory (Ok (Batches writes)) old now NoMem = (now ≡ old) ⊎ HasIntent now
 LacksMemory asked old now broke = Unit {0}
 
 -- what was asked for was made: whatever the content stood for, the report matches the step and the content
@@ -104,7 +110,7 @@ pub record DoneStatement (number : ℕ) (asked : Result Action Refusal) (old now
   pub refused : IsRefusal report.end → (now ≡ old) × (next ≡ schema)
   pub accepted : (IsRefusal report.end → ⊥) → next ≡ asked_schema schema asked
   pub numbered : report.number ≡ number
-  pub unread : IfErr asked (λ why. report ≡ unread_report number why)
+  pub unread : IsUnread number asked report
   pub can : CanEnd schema asked report.end
   pub reads : OnlyReads asked → now ≡ old
 
@@ -118,8 +124,8 @@ pub record BrokenStatement (number : ℕ) (asked : Result Action Refusal) (old n
   pub kept : KeepsDamaged schema asked old now broke
   pub memory : (m : Model) → Stands old schema m → LacksMemory asked old now broke
   pub reads : OnlyReads asked → now ≡ old
-  pub shown : IfSome old (λ content. TellsEvidence schema content broke)
-  pub lasting : IfSome now (λ content. TellsEvidence schema content broke)
+  pub shown : IfSome old (λ content. TellsEvidenceFor asked schema content broke)
+  pub lasting : IfSome now (λ content. TellsEvidenceFor asked schema content broke)
 
 abbrev pub Promises : ℕ → Result Action Refusal → Option Content → Option Content → Schema → Counts → Counts
     → Result (Schema × Report) Broke → Type 0

@@ -17,13 +17,14 @@ use Rattle.pq_print.specs.declared.report.End.TheVariants as end
 use Rattle.pq_print.specs.declared.report.Report.{Report}
 use Rattle.pq_content.specs.Tables.{Rows, rows_of}
 use Rattle.pq_added.specs.Added.{grown_rows}
+use Rattle.pq_batch.specs.Batches.{Unmade, InBatch, TooLong, batch_bound, batch_effect}
 use Rattle.pq_builds.specs.Bounds.{bound, prepare_bound}
 use Rattle.pq_schema.specs.Tables.{table_at}
 use Rattle.pq_schema.specs.declared.query.Query.{Query}
 use Rattle.pq_schema.specs.declared.table.NewIndex.{NewIndex}
 use Rattle.pq_plan.specs.Answer.{answer, selected_values}
 use Rattle.pq_text.specs.declared.piece.Piece.{Piece}
-use Rattle.pq_statement.specs.Actions.{Action, Creates, Adds, Writes, Prepares, Explains, Runs, Counts, Reads, Shows, Selects, action_of}
+use Rattle.pq_statement.specs.Actions.{Action, Creates, Adds, Writes, Batches, Misreads, Prepares, Explains, Runs, Counts, Reads, Shows, Selects, action_of}
 use Rattle.pq_planning.specs.Lines.{table_lines, show_lines, query_lines}
 use Rattle.pq_planning.specs.Planning.{PlannedDefinition}
 use Rattle.pq_statement.specs.Readings.{Reading}
@@ -99,6 +100,27 @@ effected_as m number most (Err why) = refused_step m number why most
 unfoldable pub write_step : Model → ℕ → Write → Step
 write_step m number write = effected_as m number (whole_bound m.schema write)
     (counted_effect m.schema m.rows write)
+
+-- ---- BATCH
+
+-- how a batch ends that isn't made
+abbrev pub unmade_end : Unmade → End
+unmade_end (InBatch place cause) = end.InBatch place cause
+unmade_end (TooLong length) = end.Refused (refusal.BatchLong length)
+
+abbrev pub batched_as : Model → ℕ → Bound → Result Rows Unmade → Step
+batched_as m number most (Ok rows) =
+    record { model = record m { rows = rows }; report = report_of number [] end.Done most }
+batched_as m number most (Err why) = report_step m (report_of number [] (unmade_end why) most)
+
+-- all its writes, or none of them; both have its bound
+unfoldable pub batch_step : Model → ℕ → List Write → Step
+batch_step m number writes =
+    batched_as m number (batch_bound m.schema writes) (batch_effect m.schema m.rows writes)
+
+-- a batch of which the write at a place, from 1, is refused by reading
+abbrev pub misread_report : ℕ → ℕ → Refusal → Report
+misread_report number place cause = report_of number [] (end.InBatch place cause) (bound 0 0)
 
 -- ---- CREATE COUNTER and READ
 
@@ -185,6 +207,8 @@ abbrev pub action_step : Model → ℕ → Action → Step
 action_step m number (Creates table) = table_step m number table
 action_step m number (Adds def) = alter_step m number def
 action_step m number (Writes write) = write_step m number write
+action_step m number (Batches writes) = batch_step m number writes
+action_step m number (Misreads place cause) = report_step m (misread_report number place cause)
 action_step m number (Prepares plan) = prepared_over m number plan (crowding_refusal m plan.chosen.wanted)
 action_step m number (Explains plan) = report_step m (explanation m.schema.tables number plan)
 action_step m number (Runs running) = report_step m (page_of m number running)

@@ -2,7 +2,7 @@
 ghost use Rattle.std.specs.Prelude.{◌≡◌, ◌≤◌, []};
 ghost use Rattle.pq_reports.specs.Reports.{build_report, counter_report, crowded_report, define_report, too_many_report};
 ghost use Rattle.pq_builds.specs.Bounds.{bound};
-ghost use Rattle.pq_reports.specs.Step.{report_of, refusal_report};
+ghost use Rattle.pq_reports.specs.Step.{misread_report, report_of, refusal_report};
 
 use pq_base::{Bound, List, Refusal, Used};
 use pq_builds::build_ops;
@@ -25,6 +25,33 @@ pub fn refusal_report(alloc: Global, number: u32, why: Refusal, bound: Bound, us
         bound,
         used,
     }
+}
+
+/// The report of a batch of which the write at this place, from 1, is refused.
+pub fn in_batch_report(
+    alloc: Global,
+    number: u32,
+    place: u16,
+    cause: Refusal,
+    bound: Bound,
+    used: Used,
+) -> Report
+    ensures { result ≡ record (report_of number [] (End.InBatch place cause) bound) { used = used } }
+{
+    Report {
+        number,
+        lines: List::new(alloc),
+        end: End::InBatch { place, cause },
+        bound,
+        used,
+    }
+}
+
+/// The report of a batch of which the write at this place, from 1, is refused by reading.
+pub fn misread_report(alloc: Global, number: u32, place: u16, cause: Refusal) -> Report
+    ensures { result ≡ misread_report number place cause }
+{
+    in_batch_report(alloc, number, place, cause, NO_CALLS, NOTHING_USED)
 }
 
 /// The report of a statement that is done.

@@ -18,6 +18,7 @@ use Rattle.pq_print.specs.declared.report.Report.{Report}
 use Rattle.pq_check.specs.Checks.{without_rows}
 use Rattle.pq_catalog.specs.Model.{Model}
 use Rattle.pq_catalog.proofs.Standing.{settled_opens}
+use Rattle.pq_shell.specs.Answered.{IsAnsweredStop}
 use Rattle.pq_shell.specs.Fold.{Moment, ServedItems, StoppedItem}
 use Rattle.pq_shell.specs.Forms.{HasItems, HasOpening, OpensAt, StandsIn, close, shown_report}
 use Rattle.pq_shell.specs.Items.{Item, Cut, Rest, cut_items, rest_items, items_of}
@@ -180,10 +181,10 @@ module _ {f : Form} (read : ReadsSource f) {left left' : Option (List ℕ)} {s t
         })
 
     -- the run stopped at the rest
-    pub Stopped-at_rest : (stop : Stop) → StoppedAtRest stop ending q c.held h' → BrokenRun f stop (at_end left a) (at_end left' (with_held c h'))
-    Stopped-at_rest stop rest =
+    pub Stopped-at_rest : {answers : List ℕ → Option (List ℕ) → Type 0} (stop : Stop) → StoppedAtRest stop ending q c.held h' → BrokenRun answers f stop (at_end left a) (at_end left' (with_held c h'))
+    Stopped-at_rest {answers = answers} stop rest =
         let n = q.tally.count + 1 in
-        let here : StoppedItem f stop t c (with_held c h') n (Rest ∷ []) =
+        let here : StoppedItem answers f stop t c (with_held c h') n (Rest ∷ []) =
         Stopped-writing f stop Rest n t t c.content c.content c.held h' c.counts c.counts (rest_report n) (rest_made f read n t c.content c.counts) (λ m. stands_opens f c.content t m)
         (subst (λ text. CutsOff stop text c.held h') (sym (shown_printed f read n)) rest.cut) in
         let last = from_number from.counted here in
@@ -207,8 +208,8 @@ module _ {f : Form} (read : ReadsSource f) {left left' : Option (List ℕ)} {s t
         })
 
 -- the run stopped among the pieces
-pub Stopped-among : {f : Form} (read : ReadsSource f) {stop : Stop} {left left' : Option (List ℕ)} {s : Schema} {a b c : Moment} {p : Progress} → p.splitter ≡ start_summary → p.tally.count ≡ 0
-    → Opening f s a b → StoppedAmong f stop left left' s b c p → BrokenRun f stop (at_end left a) (at_end left' c)
+pub Stopped-among : {answers : List ℕ → Option (List ℕ) → Type 0} {f : Form} (read : ReadsSource f) {stop : Stop} {left left' : Option (List ℕ)} {s : Schema} {a b c : Moment} {p : Progress} → p.splitter ≡ start_summary → p.tally.count ≡ 0
+    → Opening f s a b → StoppedAmong answers f stop left left' s b c p → BrokenRun answers f stop (at_end left a) (at_end left' c)
 Stopped-among {f = f} read {left = left} {left' = left'} {s = s} {b = b} {p = p} fresh none opening among =
     let number : p.tally.count + 1 ≡ 1 = omega (arith, none) in
     let whole = among.early ++ among.late in
@@ -233,18 +234,18 @@ Stopped-among {f = f} read {left = left} {left' = left'} {s = s} {b = b} {p = p}
     })
 
 -- the run stopped at the opening
-pub Stopped-opening : (f : Form) (stop : Stop) (left : Option (List ℕ)) (a b : Moment) → HasOpening f → StoppedOpening stop a b → BrokenRun f stop (at_end left a) (at_end left b)
-Stopped-opening f stop left a b some stopped = AtOpening (record { some = some; unread = refl; stopped = stopped })
+pub Stopped-opening : {answers : List ℕ → Option (List ℕ) → Type 0} (f : Form) (stop : Stop) (left : Option (List ℕ)) (a b : Moment) → HasOpening f → StoppedOpening stop a b → IsAnsweredStop answers stop → BrokenRun answers f stop (at_end left a) (at_end left b)
+Stopped-opening f stop left a b some stopped answered = AtOpening (record { some = some; unread = refl; stopped = stopped; answered = answered })
 
 -- ---- each status
 
-finished : (f : Form) (ending : Ending) (refused : Bool) (before now : RunWorld) → FinishedRun f ending refused before now → Ends f (status_of ending refused) before now
-finished f Whole false before now is = is
-finished f Whole true before now is = is
-finished f Faulted refused before now is = (refused, is)
-finished f TooLong refused before now is = (refused, is)
+finished : (answers : List ℕ → Option (List ℕ) → Type 0) (f : Form) (ending : Ending) (refused : Bool) (before now : RunWorld) → FinishedRun f ending refused before now → Ends answers f (status_of ending refused) before now
+finished answers f Whole false before now is = is
+finished answers f Whole true before now is = is
+finished answers f Faulted refused before now is = (refused, is)
+finished answers f TooLong refused before now is = (refused, is)
 
-damaged : (f : Form) (is : Status) (damage : Damage) (before mid : RunWorld) (h' : Option (List ℕ)) → BrokenRun f (stops.Damaged damage) before mid → EndsDamaged is damage.key mid.moment.held h' → Ends f is before (written_world mid h')
+damaged : {answers : List ℕ → Option (List ℕ) → Type 0} (f : Form) (is : Status) (damage : Damage) (before mid : RunWorld) (h' : Option (List ℕ)) → BrokenRun answers f (stops.Damaged damage) before mid → EndsDamaged is damage.key mid.moment.held h' → Ends answers f is before (written_world mid h')
 damaged f status.Damaged damage before mid h' broken ends = record { damage = damage; held = mid.moment.held; line = damage_line damage.key; broken = broken; tail = refl; text = ends }
 damaged f status.WriteFault damage before mid h' broken ends = inr (record { damage = damage; held = mid.moment.held; line = ends.0; broken = broken; tail = ends.1; text = ends.2 })
 damaged f status.NoMem damage before mid h' broken ends = inr (record { damage = damage; held = mid.moment.held; line = []; broken = broken; tail = refl; text = ends ∙ sym (append_known-none mid.moment.held) })
@@ -255,16 +256,16 @@ damaged f status.ReadFault damage before mid h' broken ends = absurd ends
 damaged f status.StoreFault damage before mid h' broken ends = absurd ends
 damaged f status.TooLong damage before mid h' broken ends = absurd ends
 
-at_status : (f : Form) (is expected : Status) (before mid : RunWorld) (h' : Option (List ℕ)) → is ≡ expected → h' ≡ mid.moment.held → Ends f expected before mid → Ends f is before (written_world mid h')
-at_status f is expected before mid h' same kept ends = subst (λ k. Ends f is before (written_world mid k)) (sym kept) (subst (λ s. Ends f s before mid) (sym same) ends)
+at_status : (answers : List ℕ → Option (List ℕ) → Type 0) (f : Form) (is expected : Status) (before mid : RunWorld) (h' : Option (List ℕ)) → is ≡ expected → h' ≡ mid.moment.held → Ends answers f expected before mid → Ends answers f is before (written_world mid h')
+at_status answers f is expected before mid h' same kept ends = subst (λ k. Ends answers f is before (written_world mid k)) (sym kept) (subst (λ s. Ends answers f s before mid) (sym same) ends)
 
-pub Ends-of : (f : Form) (outcome : Result Ended Stop) (is : Status) (before mid : RunWorld) (h' : Option (List ℕ)) → IfOk outcome (λ ended. FinishedRun f ended.ending ended.refused before mid) → IfErr outcome (λ stop. BrokenRun f stop before mid)
-    → Closes outcome is mid.moment.held h' → Ends f is before (written_world mid h')
-Ends-of f (Ok ended) is before mid h' ok err closes = at_status f is (status_of ended.ending ended.refused) before mid h' closes.0 closes.1 (finished f ended.ending ended.refused before mid ok)
-Ends-of f (Err stops.StoreFailed) is before mid h' ok err closes = at_status f is status.StoreFault before mid h' closes.0 closes.1 err
-Ends-of f (Err stops.WriteFailed) is before mid h' ok err closes = at_status f is status.WriteFault before mid h' closes.0 closes.1 (inl err)
-Ends-of f (Err stops.NoMem) is before mid h' ok err closes = at_status f is status.NoMem before mid h' closes.0 closes.1 (inl err)
-Ends-of f (Err (stops.Damaged damage)) is before mid h' ok err closes = damaged f is damage before mid h' err closes
+pub Ends-of : (answers : List ℕ → Option (List ℕ) → Type 0) (f : Form) (outcome : Result Ended Stop) (is : Status) (before mid : RunWorld) (h' : Option (List ℕ)) → IfOk outcome (λ ended. FinishedRun f ended.ending ended.refused before mid) → IfErr outcome (λ stop. BrokenRun answers f stop before mid)
+    → Closes outcome is mid.moment.held h' → Ends answers f is before (written_world mid h')
+Ends-of answers f (Ok ended) is before mid h' ok err closes = at_status answers f is (status_of ended.ending ended.refused) before mid h' closes.0 closes.1 (finished answers f ended.ending ended.refused before mid ok)
+Ends-of answers f (Err stops.StoreFailed) is before mid h' ok err closes = at_status answers f is status.StoreFault before mid h' closes.0 closes.1 err
+Ends-of answers f (Err stops.WriteFailed) is before mid h' ok err closes = at_status answers f is status.WriteFault before mid h' closes.0 closes.1 (inl err)
+Ends-of answers f (Err stops.NoMem) is before mid h' ok err closes = at_status answers f is status.NoMem before mid h' closes.0 closes.1 (inl err)
+Ends-of answers f (Err (stops.Damaged damage)) is before mid h' ok err closes = damaged f is damage before mid h' err closes
 
 -- ---- completeness
 
@@ -274,7 +275,7 @@ IsWhole Faulted = ⊥
 IsWhole TooLong = ⊥
 
 -- over what opens no damage is found, and a check finds none
-sound : (f : Form) (damage : Damage) (before now : RunWorld) → BrokenRun f (stops.Damaged damage) before now → OpensFor f before.moment.content → ⊥
+sound : {answers : List ℕ → Option (List ℕ) → Type 0} (f : Form) (damage : Damage) (before now : RunWorld) → BrokenRun answers f (stops.Damaged damage) before now → OpensFor f before.moment.content → ⊥
 sound Run damage before now (AtOpening b) opens = (b.stopped.stands (opens tt).0 (opens tt).1).1
 sound Run damage before now (AtItem b) opens = (b.stopped.stands (opens tt).0 (b.opening.opens (opens tt).0 (opens tt).1).1).1
 sound Run damage before now (AtClose b) opens = b.part_is
@@ -286,7 +287,7 @@ sound (Fill n) damage before now (AtItem b) opens = (b.stopped.stands (opens tt)
 sound (Fill n) damage before now (AtClose b) opens = b.part_is
 
 -- a form that fails at the store opens it
-opens_store : (f : Form) (before now : RunWorld) → BrokenRun f stops.StoreFailed before now → HasOpening f
+opens_store : {answers : List ℕ → Option (List ℕ) → Type 0} (f : Form) (before now : RunWorld) → BrokenRun answers f stops.StoreFailed before now → HasOpening f
 opens_store f before now (AtOpening b) = b.some
 opens_store f before now (AtItem b) = b.stopped.part_is.0
 opens_store f before now (AtClose b) = absurd b.part_is
@@ -298,21 +299,21 @@ reads_source Check ending left left' items read other = tt
 reads_source (Fill n) ending left left' items read other = other read.0
 
 -- where no fault came, the script wasn't too long and the store opens, the run is plain
-pub Ends-plain : (f : Form) (is : Status) (before now : RunWorld) → Ends f is before now → OpensFor f before.moment.content → (ReadsSource f → is ≡ status.TooLong → ⊥) → (ReadsSource f → is ≡ status.ReadFault → ⊥)
+pub Ends-plain : (answers : List ℕ → Option (List ℕ) → Type 0) (f : Form) (is : Status) (before now : RunWorld) → Ends answers f is before now → OpensFor f before.moment.content → (ReadsSource f → is ≡ status.TooLong → ⊥) → (ReadsSource f → is ≡ status.ReadFault → ⊥)
     → (is ≡ status.WriteFault → ⊥) → (HasOpening f → is ≡ status.StoreFault → ⊥) → IsPlain is
-Ends-plain f status.Good before now ends opens long read write store = tt
-Ends-plain f status.SomeRefused before now ends opens long read write store = tt
-Ends-plain f status.NoMem before now ends opens long read write store = tt
-Ends-plain f status.Usage before now ends opens long read write store = ends
-Ends-plain f status.ReadFault before now ends opens long read write store =
+Ends-plain answers f status.Good before now ends opens long read write store = tt
+Ends-plain answers f status.SomeRefused before now ends opens long read write store = tt
+Ends-plain answers f status.NoMem before now ends opens long read write store = tt
+Ends-plain answers f status.Usage before now ends opens long read write store = ends
+Ends-plain answers f status.ReadFault before now ends opens long read write store =
     read (reads_source f Faulted before.left now.left ends.1.items ends.1.read (λ e. subst IsWhole (sym e) tt)) refl
-Ends-plain f status.WriteFault before now ends opens long read write store = write refl
-Ends-plain f status.StoreFault before now ends opens long read write store = store (opens_store f before now ends) refl
-Ends-plain f status.TooLong before now ends opens long read write store =
+Ends-plain answers f status.WriteFault before now ends opens long read write store = write refl
+Ends-plain answers f status.StoreFault before now ends opens long read write store = store (opens_store f before now ends) refl
+Ends-plain answers f status.TooLong before now ends opens long read write store =
     long (reads_source f TooLong before.left now.left ends.1.items ends.1.read (λ e. subst IsWhole (sym e) tt)) refl
-Ends-plain f status.Damaged before now ends opens long read write store = sound f ends.damage before _ ends.broken opens
+Ends-plain answers f status.Damaged before now ends opens long read write store = sound f ends.damage before _ ends.broken opens
 
 -- by another name of the form
-pub Ends-plain-as : (f g : Form) (is : Status) (before now : RunWorld) → f ≡ g → Ends f is before now → OpensFor g before.moment.content → (ReadsSource g → is ≡ status.TooLong → ⊥) → (ReadsSource g → is ≡ status.ReadFault → ⊥)
+pub Ends-plain-as : (answers : List ℕ → Option (List ℕ) → Type 0) (f g : Form) (is : Status) (before now : RunWorld) → f ≡ g → Ends answers f is before now → OpensFor g before.moment.content → (ReadsSource g → is ≡ status.TooLong → ⊥) → (ReadsSource g → is ≡ status.ReadFault → ⊥)
     → (is ≡ status.WriteFault → ⊥) → (HasOpening g → is ≡ status.StoreFault → ⊥) → IsPlain is
-Ends-plain-as f g is before now same ends = Ends-plain g is before now (subst (λ (x : Form). Ends x is before now) same ends)
+Ends-plain-as answers f g is before now same ends = Ends-plain answers g is before now (subst (λ (x : Form). Ends answers x is before now) same ends)

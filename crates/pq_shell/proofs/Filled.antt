@@ -158,20 +158,20 @@ module _ (n made : ℕ) (text : List ℕ) (kind : Kind) (text_at : slice_get (fi
       counted_more x = refl
 
   -- the run stopped at it
-  pub stopped_next : (stop : Stop) (first last : Schema) (from : Moment) (old now : Option Content) (held : Option (List ℕ)) (before after : Counts) (filled : Filled)
-      → FillsSoFar n first last used from (moment old held before) made filled → BreaksAt (Fill n) stop item (made + 1) last old now before after
-      → StoppedItem (Fill n) stop first from (moment now held after) 1 (fill_items n)
-  stopped_next stop first last from old now held before after filled so_far breaks =
-      let here : StoppedItem (Fill n) stop last (moment old held before) (moment now held after) (1 + length (take made (fill_items n))) (item ∷ []) = from_number number (breaks held) in
+  pub stopped_next : {answers : List ℕ → Option (List ℕ) → Type 0} (stop : Stop) (first last : Schema) (from : Moment) (old now : Option Content) (held : Option (List ℕ)) (before after : Counts) (filled : Filled)
+      → FillsSoFar n first last used from (moment old held before) made filled → BreaksAt answers (Fill n) stop item (made + 1) last old now before after
+      → StoppedItem answers (Fill n) stop first from (moment now held after) 1 (fill_items n)
+  stopped_next {answers = answers} stop first last from old now held before after filled so_far breaks =
+      let here : StoppedItem answers (Fill n) stop last (moment old held before) (moment now held after) (1 + length (take made (fill_items n))) (item ∷ []) = from_number number (breaks held) in
       let all = Stopped-after so_far.some.made_are here in
-      let some : StoppedItem (Fill n) stop first from (moment now held after) 1 (take (made + 1) (fill_items n)) = among_items (sym (take_next (fill_items n) made item (item_at n made text text_at))) all in
+      let some : StoppedItem answers (Fill n) stop first from (moment now held after) 1 (take (made + 1) (fill_items n)) = among_items (sym (take_next (fill_items n) made item (item_at n made text text_at))) all in
       among_items (take-append-drop (made + 1) (fill_items n)) (Stopped-before (drop (made + 1) (fill_items n)) some)
 
 -- there was no memory for the text of the next one
-pub stopped_before : (n made : ℕ) (used : Used) (first last : Schema) (from : Moment) (to : Moment) (filled : Filled) → made ≤ length (fill_script n) → FillsSoFar n first last used from to made filled
-    → StoppedItem (Fill n) stops.NoMem first from to 1 (fill_items n)
-stopped_before n made used first last from to filled within so_far =
-    let here = Stopped-between (Fill n) last to (1 + length (take made (fill_items n))) (drop made (fill_items n)) (λ m. stands_opens (Fill n) to.content last m) in
+pub stopped_before : {answers : List ℕ → Option (List ℕ) → Type 0} (n made : ℕ) (used : Used) (first last : Schema) (from : Moment) (to : Moment) (filled : Filled) → made ≤ length (fill_script n) → FillsSoFar n first last used from to made filled
+    → StoppedItem answers (Fill n) stops.NoMem first from to 1 (fill_items n)
+stopped_before {answers = answers} n made used first last from to filled within so_far =
+    let here = Stopped-between {answers = answers} (Fill n) last to (1 + length (take made (fill_items n))) (drop made (fill_items n)) (λ m. stands_opens (Fill n) to.content last m) in
     among_items (take-append-drop made (fill_items n)) (Stopped-after so_far.some.made_are here)
 
 -- all were made
@@ -197,7 +197,7 @@ unfolding summary_of
 noted_all n used first b c filled fills opened same = fills.noted ∙ ap (λ (u : Used). fold with_report (no_reports u) (zip (fill_kinds n) fills.reports)) (sym same)
 
 module _ (n : ℕ) (left : Option (List ℕ)) (begun : Begun) (a b c : Moment) (opens : OpensWith (Fill n) begun a b) where
-  pub stops_filling : (stop : Stop) → StoppedItem (Fill n) stop begun.session b c 1 (fill_items n) → BrokenRun (Fill n) stop (at_end left a) (at_end left c)
+  pub stops_filling : {answers : List ℕ → Option (List ℕ) → Type 0} (stop : Stop) → StoppedItem answers (Fill n) stop begun.session b c 1 (fill_items n) → BrokenRun answers (Fill n) stop (at_end left a) (at_end left c)
   stops_filling stop stopped = AtItem (record {
     ending = Whole;
     items = fill_items n;
@@ -226,7 +226,7 @@ module _ (n : ℕ) (left : Option (List ℕ)) (begun : Begun) (a b c : Moment) (
       refusal = fills.refused_is;
     }
 
-    pub stops_closing : (stop : Stop) → CutsOff stop (summary_text n filled.summary) c.held h' → BrokenRun (Fill n) stop (at_end left a) (at_end left (with_held c h'))
+    pub stops_closing : {answers : List ℕ → Option (List ℕ) → Type 0} (stop : Stop) → CutsOff stop (summary_text n filled.summary) c.held h' → BrokenRun answers (Fill n) stop (at_end left a) (at_end left (with_held c h'))
     stops_closing stops.StoreFailed cut = absurd cut
     stops_closing (stops.Damaged damage) cut = absurd cut
     stops_closing stops.NoMem cut = AtClose (record {

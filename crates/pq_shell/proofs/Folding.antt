@@ -16,7 +16,7 @@ use Rattle.pq_catalog.specs.Model.{Model}
 use Rattle.pq_reports.specs.Matches.{Matches}
 use Rattle.pq_reports.specs.Promise.{IsWithinFixed}
 use Rattle.pq_reports.proofs.Promises.{within_none, within_reported}
-use Rattle.pq_shell.specs.Fold.{Moment, IsReport, Reports, RisesBy, IsWithinItem, IsWithinStep, IsPart, AreStill, KeepsItem, after, ReportedItems, Halts, MadeReports, ServedItems, ShowsDamage, StoppedItem, schema_behind}
+use Rattle.pq_shell.specs.Fold.{Moment, IsReport, Reports, RisesBy, IsWithinItem, IsWithinStep, IsPart, AreStill, KeepsItem, AnswersItem, after, ReportedItems, Halts, MadeReports, ServedItems, ShowsDamage, StoppedItem, schema_behind}
 use Rattle.pq_shell.specs.Forms.{StandsIn, OpensAt, asked_item, item_step, shown_report}
 use Rattle.pq_shell.specs.Items.{Item}
 use Rattle.pq_shell.specs.Making.{MakesItem, moment}
@@ -154,6 +154,20 @@ kept_more stops.NoMem s todo more old now h = tt
 kept_more (stops.Damaged damage) s [] more old now h = absurd h
 kept_more (stops.Damaged damage) s (x ∷ xs) more old now h = h
 
+shown_more : (stop : Stop) (s : Schema) (todo more : List Item) (now : Option Content) → ShowsDamage stop s todo now → ShowsDamage stop s (todo ++ more) now
+shown_more stops.StoreFailed s todo more now h = tt
+shown_more stops.WriteFailed s todo more now h = tt
+shown_more stops.NoMem s todo more now h = tt
+shown_more (stops.Damaged damage) s [] more now h = absurd h
+shown_more (stops.Damaged damage) s (x ∷ xs) more now h = h
+
+answered_more : (answers : List ℕ → Option (List ℕ) → Type 0) (stop : Stop) (s : Schema) (todo more : List Item) → AnswersItem answers stop s todo → AnswersItem answers stop s (todo ++ more)
+answered_more answers stops.StoreFailed s todo more h = tt
+answered_more answers stops.WriteFailed s todo more h = tt
+answered_more answers stops.NoMem s todo more h = tt
+answered_more answers (stops.Damaged damage) s [] more h = absurd h
+answered_more answers (stops.Damaged damage) s (x ∷ xs) more h = h
+
 -- where nothing is at hand, nothing was used for it
 part_none : (f : Form) (stop : Stop) (s : Schema) (n : ℕ) (part : List ℕ) (before now : Counts) → IsPart f stop s n [] part before now → now ≡ before
 part_none f stops.StoreFailed s n part before now h = h.2
@@ -171,8 +185,8 @@ step_more f m n [] more before now none h = subst (IsWithinStep f m n more befor
 step_more f m n (x ∷ xs) more before now none h = h
 
 -- a run that stopped among some items stopped among these and more
-pub Stopped-before : {f : Form} {stop : Stop} {s : Schema} {a b : Moment} {n : ℕ} {xs : List Item} (ys : List Item) → StoppedItem f stop s a b n xs → StoppedItem f stop s a b n (xs ++ ys)
-Stopped-before {f = f} {stop = stop} {b = b} {n = n} ys p = record {
+pub Stopped-before : {answers : List ℕ → Option (List ℕ) → Type 0} {f : Form} {stop : Stop} {s : Schema} {a b : Moment} {n : ℕ} {xs : List Item} (ys : List Item) → StoppedItem answers f stop s a b n xs → StoppedItem answers f stop s a b n (xs ++ ys)
+Stopped-before {answers = answers} {f = f} {stop = stop} {b = b} {n = n} ys p = record {
   done = p.done;
   todo = p.todo ++ ys;
   reports = p.reports;
@@ -185,7 +199,8 @@ Stopped-before {f = f} {stop = stop} {b = b} {n = n} ys p = record {
   text = p.text;
   rises = p.rises;
   part_is = part_more f stop p.last (n + length p.done) p.todo ys p.part p.between b.counts p.part_is;
-  shown = p.shown;
+  shown = shown_more stop p.last p.todo ys b.content p.shown;
+  answered = answered_more answers stop p.last p.todo ys p.answered;
   still = p.still;
   kept = kept_more stop p.last p.todo ys p.begun b.content p.kept;
   stands = λ m is. let q = p.stands m is in (q.0, halts_more f stop (after f m n p.done) (n + length p.done) p.todo ys b.content p.part q.1);
@@ -194,7 +209,7 @@ Stopped-before {f = f} {stop = stop} {b = b} {n = n} ys p = record {
 }
 
 -- some items were made, and then the run stopped among others
-pub Stopped-after : {f : Form} {stop : Stop} {r s : Schema} {a b c : Moment} {n : ℕ} {xs ys : List Item} {rs : List Report} → MadeReports f r s a b n xs rs → StoppedItem f stop s b c (n + length xs) ys → StoppedItem f stop r a c n (xs ++ ys)
+pub Stopped-after : {answers : List ℕ → Option (List ℕ) → Type 0} {f : Form} {stop : Stop} {r s : Schema} {a b c : Moment} {n : ℕ} {xs ys : List Item} {rs : List Report} → MadeReports f r s a b n xs rs → StoppedItem answers f stop s b c (n + length xs) ys → StoppedItem answers f stop r a c n (xs ++ ys)
 Stopped-after {f = f} {stop = stop} {r = r} {s = s} {a = a} {c = c} {n = n} {xs = xs} {ys = ys} {rs = rs} p q =
     let number : (n + length xs) + length q.done ≡ n + length (xs ++ q.done) = omega (arith, length-append xs q.done) in
     record {
@@ -211,6 +226,7 @@ Stopped-after {f = f} {stop = stop} {r = r} {s = s} {a = a} {c = c} {n = n} {xs 
       rises = Rises-append rs q.reports p.rises q.rises;
       part_is = subst (λ k. IsPart f stop q.last k q.todo q.part q.between c.counts) number q.part_is;
       shown = q.shown;
+      answered = q.answered;
       still = λ all.
           let parts = still-append r s n xs q.done rs q.reports p.told all in
           q.still parts.1 ∙ p.still parts.0;
@@ -228,10 +244,10 @@ Stopped-after {f = f} {stop = stop} {r = r} {s = s} {a = a} {c = c} {n = n} {xs 
     }
 
 -- the run stopped before any of these items was reported
-pub Stopped-at : (f : Form) (stop : Stop) (s : Schema) (a b : Moment) (n : ℕ) (items : List Item) (part : List ℕ) → b.held ≡ append_known a.held part
-    → IsPart f stop s n items part a.counts b.counts → ShowsDamage stop s b.content → KeepsItem stop s items a.content b.content
-    → ((m : Model) → StandsIn f a.content s m → Halts f stop m n items b.content part) → ((m : Model) → StandsIn f a.content s m → IsWithinStep f m n items a.counts b.counts) → StoppedItem f stop s a b n items
-Stopped-at f stop s a b n items part text is shown kept halts own = record {
+pub Stopped-at : {answers : List ℕ → Option (List ℕ) → Type 0} (f : Form) (stop : Stop) (s : Schema) (a b : Moment) (n : ℕ) (items : List Item) (part : List ℕ) → b.held ≡ append_known a.held part
+    → IsPart f stop s n items part a.counts b.counts → ShowsDamage stop s items b.content → AnswersItem answers stop s items → KeepsItem stop s items a.content b.content
+    → ((m : Model) → StandsIn f a.content s m → Halts f stop m n items b.content part) → ((m : Model) → StandsIn f a.content s m → IsWithinStep f m n items a.counts b.counts) → StoppedItem answers f stop s a b n items
+Stopped-at f stop s a b n items part text is shown answered kept halts own = record {
   done = [];
   todo = items;
   reports = [];
@@ -245,6 +261,7 @@ Stopped-at f stop s a b n items part text is shown kept halts own = record {
   rises = Rises-none a.counts;
   part_is = subst (λ k. IsPart f stop s k items part a.counts b.counts) (sym (add-zero n)) is;
   shown = shown;
+  answered = answered;
   still = λ _. refl;
   kept = kept;
   stands = λ m is. (tt, subst (λ k. Halts f stop m k items b.content part) (sym (add-zero n)) (halts m is));
@@ -260,9 +277,9 @@ halts_same f m n [] now h = h
 halts_same f m n (x ∷ xs) now h = inl h
 
 -- the run stopped for want of memory before the next item was read whole
-pub Stopped-between : (f : Form) (s : Schema) (a : Moment) (n : ℕ) (items : List Item) → ((m : Model) → StandsIn f a.content s m → OpensAt f a.content m) → StoppedItem f stops.NoMem s a a n items
+pub Stopped-between : {answers : List ℕ → Option (List ℕ) → Type 0} (f : Form) (s : Schema) (a : Moment) (n : ℕ) (items : List Item) → ((m : Model) → StandsIn f a.content s m → OpensAt f a.content m) → StoppedItem answers f stops.NoMem s a a n items
 Stopped-between f s a n items opens =
-    Stopped-at f stops.NoMem s a a n items [] (sym (append_known-none a.held)) (refl, within_nothing s items a.counts) tt tt (λ m is. halts_same f m n items a.content (opens m is)) (λ m is. step_none f m n items a.counts)
+    Stopped-at f stops.NoMem s a a n items [] (sym (append_known-none a.held)) (refl, within_nothing s items a.counts) tt tt tt (λ m is. halts_same f m n items a.content (opens m is)) (λ m is. step_none f m n items a.counts)
 
 -- what a report tells as used is within the bound of its item
 within_item : (s : Schema) (n : ℕ) (item : Item) (report : Report) (before after : Counts) → IsReport s n item report → RisesBy (report ∷ []) before after → IsWithinFixed (asked_bound s (asked_item s item)) before after
@@ -279,22 +296,22 @@ matched_within expected report before after matches rises =
     record { ops = omega (arith, ops, matches.ops); entries = omega (arith, entries, matches.entries) }
 
 -- the run stopped while this item was reported
-pub Stopped-writing : (f : Form) (stop : Stop) (item : Item) (n : ℕ) (s t : Schema) (old now : Option Content) (h h' : Option (List ℕ)) (before after : Counts) (report : Report)
+pub Stopped-writing : {answers : List ℕ → Option (List ℕ) → Type 0} (f : Form) (stop : Stop) (item : Item) (n : ℕ) (s t : Schema) (old now : Option Content) (h h' : Option (List ℕ)) (before after : Counts) (report : Report)
     → MakesItem f item n s t old now before after report → ((m : Model) → StandsIn f now t m → OpensAt f now m) → CutsOff stop (shown_report f report) h h'
-    → StoppedItem f stop s (moment old h before) (moment now h' after) n (item ∷ [])
+    → StoppedItem answers f stop s (moment old h before) (moment now h' after) n (item ∷ [])
 Stopped-writing f stops.StoreFailed item n s t old now h h' before after report made opens cut = absurd cut
 Stopped-writing f (stops.Damaged damage) item n s t old now h h' before after report made opens cut = absurd cut
 Stopped-writing f stops.NoMem item n s t old now h h' before after report made opens cut =
     Stopped-at f stops.NoMem s (moment old h before) (moment now h' after) n (item ∷ []) [] (cut ∙ sym (append_known-none h))
-    (refl, within_item s n item report before after made.is made.rises) tt tt (λ m is. inr (opens (item_step f m n item).model (made.stands m is)))
+    (refl, within_item s n item report before after made.is made.rises) tt tt tt (λ m is. inr (opens (item_step f m n item).model (made.stands m is)))
     (λ m is. matched_within (item_step f m n item).report report before after (made.matches m is) made.rises)
 Stopped-writing f stops.WriteFailed item n s t old now h h' before after report made opens cut =
     Stopped-at f stops.WriteFailed s (moment old h before) (moment now h' after) n (item ∷ []) cut.0 cut.2
-    (report, made.is, cut.1, made.rises) tt tt (λ m is. (report, made.matches m is, cut.1, opens (item_step f m n item).model (made.stands m is)))
+    (report, made.is, cut.1, made.rises) tt tt tt (λ m is. (report, made.matches m is, cut.1, opens (item_step f m n item).model (made.stands m is)))
     (λ m is. matched_within (item_step f m n item).report report before after (made.matches m is) made.rises)
 
 -- the items by another name
-pub among_items : {f : Form} {stop : Stop} {s : Schema} {a b : Moment} {n : ℕ} {xs ys : List Item} → xs ≡ ys → StoppedItem f stop s a b n xs → StoppedItem f stop s a b n ys
+pub among_items : {answers : List ℕ → Option (List ℕ) → Type 0} {f : Form} {stop : Stop} {s : Schema} {a b : Moment} {n : ℕ} {xs ys : List Item} → xs ≡ ys → StoppedItem answers f stop s a b n xs → StoppedItem answers f stop s a b n ys
 among_items same p = record {
   done = p.done;
   todo = p.todo;
@@ -309,6 +326,7 @@ among_items same p = record {
   rises = p.rises;
   part_is = p.part_is;
   shown = p.shown;
+  answered = p.answered;
   still = p.still;
   kept = p.kept;
   stands = p.stands;
@@ -316,7 +334,7 @@ among_items same p = record {
 }
 
 -- and numbered from the same number by another name
-pub from_number : {f : Form} {stop : Stop} {s : Schema} {a b : Moment} {n k : ℕ} {xs : List Item} → n ≡ k → StoppedItem f stop s a b n xs → StoppedItem f stop s a b k xs
+pub from_number : {answers : List ℕ → Option (List ℕ) → Type 0} {f : Form} {stop : Stop} {s : Schema} {a b : Moment} {n k : ℕ} {xs : List Item} → n ≡ k → StoppedItem answers f stop s a b n xs → StoppedItem answers f stop s a b k xs
 from_number {f = f} {stop = stop} {s = s} {b = b} same p = record {
   done = p.done;
   todo = p.todo;
@@ -331,6 +349,7 @@ from_number {f = f} {stop = stop} {s = s} {b = b} same p = record {
   rises = p.rises;
   part_is = subst (λ i. IsPart f stop p.last (i + length p.done) p.todo p.part p.between b.counts) same p.part_is;
   shown = p.shown;
+  answered = p.answered;
   still = p.still;
   kept = p.kept;
   stands = λ m is.
@@ -342,15 +361,15 @@ from_number {f = f} {stop = stop} {s = s} {b = b} same p = record {
 }
 
 -- what was made before a stop
-pub length_after : {f : Form} {stop : Stop} {r s : Schema} {a b c : Moment} {n : ℕ} {xs ys : List Item} {rs : List Report} (p : MadeReports f r s a b n xs rs) (q : StoppedItem f stop s b c (n + length xs) ys)
+pub length_after : {answers : List ℕ → Option (List ℕ) → Type 0} {f : Form} {stop : Stop} {r s : Schema} {a b c : Moment} {n : ℕ} {xs ys : List Item} {rs : List Report} (p : MadeReports f r s a b n xs rs) (q : StoppedItem answers f stop s b c (n + length xs) ys)
     → length (Stopped-after p q).done ≡ length xs + length q.done
 unfolding Stopped-after
 length_after {xs = xs} p q = length-append xs q.done
 
-pub among_done : {f : Form} {stop : Stop} {s : Schema} {a b : Moment} {n : ℕ} {xs ys : List Item} (same : xs ≡ ys) (p : StoppedItem f stop s a b n xs) → (among_items same p).done ≡ p.done
+pub among_done : {answers : List ℕ → Option (List ℕ) → Type 0} {f : Form} {stop : Stop} {s : Schema} {a b : Moment} {n : ℕ} {xs ys : List Item} (same : xs ≡ ys) (p : StoppedItem answers f stop s a b n xs) → (among_items same p).done ≡ p.done
 unfolding among_items
 among_done same p = refl
 
-pub from_done : {f : Form} {stop : Stop} {s : Schema} {a b : Moment} {n k : ℕ} {xs : List Item} (same : n ≡ k) (p : StoppedItem f stop s a b n xs) → (from_number same p).done ≡ p.done
+pub from_done : {answers : List ℕ → Option (List ℕ) → Type 0} {f : Form} {stop : Stop} {s : Schema} {a b : Moment} {n k : ℕ} {xs : List Item} (same : n ≡ k) (p : StoppedItem answers f stop s a b n xs) → (from_number same p).done ≡ p.done
 unfolding from_number
 from_done same p = refl

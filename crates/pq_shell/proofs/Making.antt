@@ -1,13 +1,13 @@
 -- One item, made over the store or for a check.
 use Rattle.std.proofs.Common.{◌≡◌, ℕ, false, true, ◌+◌, ◌≤◌, ◌⊎◌, List, [], ◌∷◌, Option, refl, sym, ap, ◌∙◌, subst, arith, inl, inr}
-use Rattle.std.specs.Prelude.{IfErr, IfSome}
+use Rattle.std.specs.Prelude.{IfSome}
 use Rattle.std.specs.Io.KnownBytes.{append_known}
 use Rattle.pq_base.specs.declared.number.Used.{Used}
 use Rattle.pq_fill.specs.declared.words.Form.{Form}
 use Rattle.pq_fill.specs.declared.words.Form.TheVariants.{Run, Check, Fill}
 use Rattle.pq_schema.specs.Schema.{Schema}
 use Rattle.pq_schema.specs.declared.query.Query.{Query}
-use Rattle.pq_store.specs.Breaks.{IsUndamaged}
+use Rattle.pq_store.specs.Breaks.{IfDamaged, IsUndamaged}
 use Rattle.pq_store.specs.Content.{Content}
 use Rattle.pq_store.specs.Counts.{Counts}
 use Rattle.pq_intent.specs.Spending.{TakesAtMost}
@@ -20,16 +20,17 @@ use Rattle.pq_print.specs.declared.report.End.{End}
 use Rattle.pq_print.specs.declared.report.Report.{Report}
 use Rattle.pq_statement.specs.Actions.{action_of, schema_after, statement_bound}
 use Rattle.pq_check.specs.Checks.{checked_as, check_step, without_rows}
-use Rattle.pq_reports.specs.Evidence.{TellsEvidence}
+use Rattle.pq_reports.specs.Evidence.{AnswersFor, TellsEvidenceFor}
 use Rattle.pq_reports.specs.Matches.{Matches}
 use Rattle.pq_catalog.specs.Model.{Model}
 use Rattle.pq_reports.specs.Promise.{IsBound, IsRefusal, IsWithinFixed, KeepsDamaged, OnlyReads}
 use Rattle.pq_catalog.specs.Stands.{Opens, Stands}
-use Rattle.pq_reports.specs.Refusing.{CanEnd}
-use Rattle.pq_reports.specs.Step.{Step, step, unread_report}
+use Rattle.pq_reports.specs.Refusing.{CanEnd, IsUnread}
+use Rattle.pq_reports.specs.Step.{Step, step}
 use Rattle.pq_check.specs.Written.{IsPrepareOf, IsDefinedAs}
 use Rattle.pq_check.proofs.Checked.{check_by, is_check_step}
 use Rattle.pq_reports.proofs.Promises.{within_none}
+use Rattle.pq_shell.specs.Answered.{IsAnsweredDamage}
 use Rattle.pq_shell.specs.Fold.{DefinesAsWritten, IsStill}
 use Rattle.pq_shell.specs.Forms.{HasOpening, StandsIn, OpensAt, item_step, shown_report}
 use Rattle.pq_shell.specs.Items.{Cut}
@@ -59,7 +60,7 @@ module _ (number : ℕ) (piece : Piece) (s : Schema) (old now : Option Content) 
       (few_ops : report.used.ops ≤ report.bound.ops) (few_entries : report.used.entries ≤ report.bound.entries) (next_is : next ≡ schema_after s piece report)
       (matches : (m : Model) → Stands old s m → Matches (step m number piece).report report) (made : (m : Model) → Stands old s m → Stands now next (step m number piece).model)
       (ops : after.ops ≡ before.ops + report.used.ops) (entries : after.entries ≡ before.entries + report.used.entries)
-      (unread : IfErr (action_of s piece) (λ why. report ≡ unread_report number why)) (can : CanEnd s (action_of s piece) report.end)
+      (unread : IsUnread number (action_of s piece) report) (can : CanEnd s (action_of s piece) report.end)
       (refused : IsRefusal report.end → (now ≡ old) × (next ≡ s)) (reads : OnlyReads (action_of s piece) → now ≡ old)
       (defined : (written : Query) → IsPrepareOf s written piece → is_refusal report ≡ false → IsDefinedAs s.tables written next) where
     defined_behind : DefinesAsWritten s (Cut piece) report
@@ -69,6 +70,7 @@ module _ (number : ℕ) (piece : Piece) (s : Schema) (old now : Option Content) 
     refused_same End.Done same is = absurd (false≢true is)
     refused_same (End.Rows count cursor) same is = absurd (false≢true is)
     refused_same (End.Refused why) same is = (same tt).0
+    refused_same (End.InBatch place cause) same is = (same tt).0
 
     still_over : IsStill s (Cut piece) report → now ≡ old
     still_over (inl only) = reads only
@@ -93,25 +95,25 @@ module _ (number : ℕ) (piece : Piece) (s : Schema) (old now : Option Content) 
       still = still_over;
     }
 
-  broke_at : (f : Form) (error : Broke) → HasOpening f → ((m : Model) → StandsIn f old s m → OpensAt f now m ⊎ OpensAt f now (item_step f m number (Cut piece)).model)
-      → ((m : Model) → StandsIn f old s m → IsUndamaged error) → IsWithinFixed (statement_bound s piece) before after → IfSome now (λ content. TellsEvidence s content error)
+  broke_at : {answers : List ℕ → Option (List ℕ) → Type 0} (f : Form) (error : Broke) → HasOpening f → ((m : Model) → StandsIn f old s m → OpensAt f now m ⊎ OpensAt f now (item_step f m number (Cut piece)).model)
+      → ((m : Model) → StandsIn f old s m → IsUndamaged error) → IsWithinFixed (statement_bound s piece) before after → IfSome now (λ content. TellsEvidenceFor (action_of s piece) s content error)
       → ((m : Model) → StandsIn f old s m → TakesAtMost (item_step f m number (Cut piece)).report.bound before after)
-      → KeepsDamaged s (action_of s piece) old now error → BreaksAt f (stop_of_broke error) (Cut piece) number s old now before after
-  broke_at f broke.Failed some stops_at sound within shown own kept held =
-      Stopped-at f stops.StoreFailed s (moment old held before) (moment now held after) number (Cut piece ∷ []) [] (sym (append_known-none held)) (some, refl, within) tt tt stops_at own
-  broke_at f broke.NoMem some stops_at sound within shown own kept held =
-      Stopped-at f stops.NoMem s (moment old held before) (moment now held after) number (Cut piece ∷ []) [] (sym (append_known-none held)) (refl, within) tt tt stops_at own
-  broke_at f (broke.Damaged damage) some stops_at sound within shown own kept held =
-      Stopped-at f (stops.Damaged damage) s (moment old held before) (moment now held after) number (Cut piece ∷ []) [] (sym (append_known-none held)) (some, refl, within) shown kept (λ m is. absurd (sound m is)) own
+      → KeepsDamaged s (action_of s piece) old now error → IfDamaged (λ damage. IsAnsweredDamage (AnswersFor (action_of s piece) answers) damage) error → BreaksAt answers f (stop_of_broke error) (Cut piece) number s old now before after
+  broke_at f broke.Failed some stops_at sound within shown own kept answered held =
+      Stopped-at f stops.StoreFailed s (moment old held before) (moment now held after) number (Cut piece ∷ []) [] (sym (append_known-none held)) (some, refl, within) tt tt tt stops_at own
+  broke_at f broke.NoMem some stops_at sound within shown own kept answered held =
+      Stopped-at f stops.NoMem s (moment old held before) (moment now held after) number (Cut piece ∷ []) [] (sym (append_known-none held)) (refl, within) tt tt tt stops_at own
+  broke_at f (broke.Damaged damage) some stops_at sound within shown own kept answered held =
+      Stopped-at f (stops.Damaged damage) s (moment old held before) (moment now held after) number (Cut piece ∷ []) [] (sym (append_known-none held)) (some, refl, within) shown answered kept (λ m is. absurd (sound m is)) own
 
   -- the session broke off at this item
-  pub broke_over : (f : Form) (error : Broke) → HasOpening f → ((m : Model) → Stands old s m → Opens now m ⊎ Opens now (step m number piece).model) → ((m : Model) → Stands old s m → IsUndamaged error)
-      → IsWithinFixed (statement_bound s piece) before after → IfSome now (λ content. TellsEvidence s content error)
+  pub broke_over : {answers : List ℕ → Option (List ℕ) → Type 0} (f : Form) (error : Broke) → HasOpening f → ((m : Model) → Stands old s m → Opens now m ⊎ Opens now (step m number piece).model) → ((m : Model) → Stands old s m → IsUndamaged error)
+      → IsWithinFixed (statement_bound s piece) before after → IfSome now (λ content. TellsEvidenceFor (action_of s piece) s content error)
       → ((m : Model) → Stands old s m → TakesAtMost (step m number piece).report.bound before after)
-      → KeepsDamaged s (action_of s piece) old now error → BreaksAt f (stop_of_broke error) (Cut piece) number s old now before after
-  broke_over Run error some stops_at sound within shown own kept = broke_at Run error some stops_at sound within shown own kept
-  broke_over Check error some stops_at sound within shown own kept = absurd some
-  broke_over (Fill n) error some stops_at sound within shown own kept = broke_at (Fill n) error some stops_at sound within shown own kept
+      → KeepsDamaged s (action_of s piece) old now error → IfDamaged (λ damage. IsAnsweredDamage (AnswersFor (action_of s piece) answers) damage) error → BreaksAt answers f (stop_of_broke error) (Cut piece) number s old now before after
+  broke_over Run error some stops_at sound within shown own kept answered = broke_at Run error some stops_at sound within shown own kept answered
+  broke_over Check error some stops_at sound within shown own kept answered = absurd some
+  broke_over (Fill n) error some stops_at sound within shown own kept answered = broke_at (Fill n) error some stops_at sound within shown own kept answered
 
 -- ---- for a check
 
@@ -139,7 +141,7 @@ module _ (number : ℕ) (piece : Piece) (s : Schema) (content : Option Content) 
           bound_is = subst (λ (r : Report). IsBound (statement_bound s piece) r.bound) (sym same) facts.bound;
           few_ops = omega (arith, no_ops);
           few_entries = omega (arith, no_entries);
-          unread_is = subst (λ (r : Report). IfErr (action_of s piece) (λ why. r ≡ unread_report number why)) (sym same) facts.unread;
+          unread_is = subst (IsUnread number (action_of s piece)) (sym same) facts.unread;
           can = subst (λ (r : Report). CanEnd s (action_of s piece) r.end) (sym same) facts.can;
           defined_is = λ written is accepted. subst (IsDefinedAs s.tables written) behind (defined written is accepted);
         };
@@ -152,7 +154,7 @@ module _ (number : ℕ) (piece : Piece) (s : Schema) (content : Option Content) 
       }
 
   -- there was no memory for it
-  pub lost_checked : BreaksAt Check stops.NoMem (Cut piece) number s content content counts counts
+  pub lost_checked : {answers : List ℕ → Option (List ℕ) → Type 0} → BreaksAt answers Check stops.NoMem (Cut piece) number s content content counts counts
   lost_checked held =
       Stopped-at Check stops.NoMem s (moment content held counts) (moment content held counts) number (Cut piece ∷ []) [] (sym (append_known-none held))
-      (refl, within_none (statement_bound s piece) counts) tt tt (λ m is. inl tt) (λ m is. record { ops = omega arith; entries = omega arith })
+      (refl, within_none (statement_bound s piece) counts) tt tt tt (λ m is. inl tt) (λ m is. record { ops = omega arith; entries = omega arith })

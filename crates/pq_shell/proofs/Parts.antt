@@ -62,8 +62,8 @@ Progressed-piece {f = f} {s = s} {t = t} {u = u} {a = a} {b = b} {c = c} {bytes 
     }
 
 -- the run stopped after what was fed, all of which is reported
-pub record StoppedBehind (f : Form) (stop : Stop) (s : Schema) (a c : Moment) (p : Progress) (bytes rest : List ℕ) : Type 0 where
-  pub stopped : StoppedItem f stop s a c (p.tally.count + 1) (cut_items (pieces_from p.splitter (bytes ++ rest)))
+pub record StoppedBehind (answers : List ℕ → Option (List ℕ) → Type 0) (f : Form) (stop : Stop) (s : Schema) (a c : Moment) (p : Progress) (bytes rest : List ℕ) : Type 0 where
+  pub stopped : StoppedItem answers f stop s a c (p.tally.count + 1) (cut_items (pieces_from p.splitter (bytes ++ rest)))
   pub reported : length (pieces_from p.splitter bytes) ≤ length stopped.done
 
 -- the pieces of what was fed are those that it told
@@ -71,8 +71,8 @@ told_of : {s t : Summary} {bytes : List ℕ} {told : List Piece} → FedPieces s
 unfolding pieces_from
 told_of {s = s} {bytes = bytes} {told = told} fed = ap (pieces_from s) (sym (append-nil bytes)) ∙ fed.pieces [] ∙ append-nil told
 
-pub stopped_later : {f : Form} {stop : Stop} {s t : Schema} {a b c : Moment} {bytes : List ℕ} {p q : Progress} (rest : List ℕ) → ProgressedRun f s t a b bytes p q
-    → StoppedItem f stop t b c (q.tally.count + 1) (cut_items (pieces_from q.splitter rest)) → StoppedBehind f stop s a c p bytes rest
+pub stopped_later : {answers : List ℕ → Option (List ℕ) → Type 0} {f : Form} {stop : Stop} {s t : Schema} {a b c : Moment} {bytes : List ℕ} {p q : Progress} (rest : List ℕ) → ProgressedRun f s t a b bytes p q
+    → StoppedItem answers f stop t b c (q.tally.count + 1) (cut_items (pieces_from q.splitter rest)) → StoppedBehind answers f stop s a c p bytes rest
 stopped_later {f = f} {stop = stop} {s = s} {t = t} {a = a} {b = b} {c = c} {bytes = bytes} {p = p} {q = q} rest before stopped =
     let number = number_on p.tally.count q.tally.count before.told before.counted in
     let items : cut_items (pieces_from p.splitter (bytes ++ rest)) ≡ cut_items before.told ++ cut_items (pieces_from q.splitter rest) =
@@ -83,16 +83,16 @@ stopped_later {f = f} {stop = stop} {s = s} {t = t} {a = a} {b = b} {c = c} {byt
     record { stopped = here; reported = omega (arith, ap length (told_of before.fed), length-map before.told Cut, long) }
 
 -- the same of all bytes
-pub Stopped-later : {f : Form} {stop : Stop} {s t : Schema} {a b c : Moment} {bytes : List ℕ} {p q : Progress} (rest whole : List ℕ) → whole ≡ bytes ++ rest → ProgressedRun f s t a b bytes p q
-    → StoppedItem f stop t b c (q.tally.count + 1) (cut_items (pieces_from q.splitter rest)) → StoppedItem f stop s a c (p.tally.count + 1) (cut_items (pieces_from p.splitter whole))
+pub Stopped-later : {answers : List ℕ → Option (List ℕ) → Type 0} {f : Form} {stop : Stop} {s t : Schema} {a b c : Moment} {bytes : List ℕ} {p q : Progress} (rest whole : List ℕ) → whole ≡ bytes ++ rest → ProgressedRun f s t a b bytes p q
+    → StoppedItem answers f stop t b c (q.tally.count + 1) (cut_items (pieces_from q.splitter rest)) → StoppedItem answers f stop s a c (p.tally.count + 1) (cut_items (pieces_from p.splitter whole))
 Stopped-later {p = p} rest whole split before stopped = among_items (ap (λ w. cut_items (pieces_from p.splitter w)) (sym split)) (stopped_later rest before stopped).stopped
 
 -- the run stopped at the piece that was told next
-pub Stopped-at_piece : {f : Form} {stop : Stop} {s t : Schema} {a b c : Moment} {bytes : List ℕ} {p q : Progress} (part rest whole : List ℕ) (piece : Piece) (u : Summary) → whole ≡ bytes ++ (part ++ rest) → ProgressedRun f s t a b bytes p q
-    → FedPieces q.splitter part (piece ∷ []) u → StoppedItem f stop t b c (q.tally.count + 1) (Cut piece ∷ []) → StoppedItem f stop s a c (p.tally.count + 1) (cut_items (pieces_from p.splitter whole))
-Stopped-at_piece {f = f} {stop = stop} {t = t} {b = b} {c = c} {q = q} part rest whole piece u split before fed stopped =
+pub Stopped-at_piece : {answers : List ℕ → Option (List ℕ) → Type 0} {f : Form} {stop : Stop} {s t : Schema} {a b c : Moment} {bytes : List ℕ} {p q : Progress} (part rest whole : List ℕ) (piece : Piece) (u : Summary) → whole ≡ bytes ++ (part ++ rest) → ProgressedRun f s t a b bytes p q
+    → FedPieces q.splitter part (piece ∷ []) u → StoppedItem answers f stop t b c (q.tally.count + 1) (Cut piece ∷ []) → StoppedItem answers f stop s a c (p.tally.count + 1) (cut_items (pieces_from p.splitter whole))
+Stopped-at_piece {answers = answers} {f = f} {stop = stop} {t = t} {b = b} {c = c} {q = q} part rest whole piece u split before fed stopped =
     let items : cut_items (pieces_from q.splitter (part ++ rest)) ≡ Cut piece ∷ cut_items (pieces_from u rest) = ap cut_items (fed.pieces rest) in
-    Stopped-later (part ++ rest) whole split before (subst (λ xs. StoppedItem f stop t b c (q.tally.count + 1) xs) (sym items) (Stopped-before (cut_items (pieces_from u rest)) stopped))
+    Stopped-later (part ++ rest) whole split before (subst (λ xs. StoppedItem answers f stop t b c (q.tally.count + 1) xs) (sym items) (Stopped-before (cut_items (pieces_from u rest)) stopped))
 
 pub Fed-told : {s t : Summary} {part : List ℕ} (found : Option Piece) (told : List Piece) → FedPieces s part (piece_list found) t → piece_list found ≡ told → FedPieces s part told t
 Fed-told {s = s} {t = t} {part = part} found told fed e = subst (λ v. FedPieces s part v t) e fed

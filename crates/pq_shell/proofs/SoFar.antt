@@ -69,8 +69,8 @@ SoFar-past {left = left} ending so_far full took = record {
 }
 
 -- the run stopped in the part that was read last
-pub SoFar-stopped : {f : Form} {taken : ℕ} {left mid now : Option (List ℕ)} {s t : Schema} {a b c : Moment} {p q : Progress} {stop : Stop} (n : ℕ) (part : List ℕ) → ReadSoFar f taken left mid s t a b p q
-    → mid ≡ prepend_known part now → length part ≡ n → n ≤ 4096 → taken + n ≤ script_limit → StoppedItem f stop t b c (q.tally.count + 1) (cut_items (pieces_from q.splitter part)) → StoppedAmong f stop left now s a c p
+pub SoFar-stopped : {answers : List ℕ → Option (List ℕ) → Type 0} {f : Form} {taken : ℕ} {left mid now : Option (List ℕ)} {s t : Schema} {a b c : Moment} {p q : Progress} {stop : Stop} (n : ℕ) (part : List ℕ) → ReadSoFar f taken left mid s t a b p q
+    → mid ≡ prepend_known part now → length part ≡ n → n ≤ 4096 → taken + n ≤ script_limit → StoppedItem answers f stop t b c (q.tally.count + 1) (cut_items (pieces_from q.splitter part)) → StoppedAmong answers f stop left now s a c p
 SoFar-stopped {now = now} n part so_far next long small short stopped =
     let later = stopped_later part so_far.progressed stopped in
     record {

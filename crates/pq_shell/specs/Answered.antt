@@ -1,8 +1,10 @@
 -- What damage is told with where a run stops for it.
-use Rattle.std.specs.Prelude.{◌≡◌, ◌⊎◌, ℕ, List, ◌++◌, Option, None}
+use Rattle.std.specs.Prelude.{◌≡◌, ◌⊎◌, ℕ, List, Option, None, Result}
+use Rattle.pq_base.specs.declared.refusal.Refusal.{Refusal}
 use Rattle.pq_store.specs.declared.damage.Damage.{Damage}
 use Rattle.pq_key_code.specs.KeyCode.{catalog_key}
-use Rattle.pq_print.specs.Report.{damage_line}
+use Rattle.pq_statement.specs.Actions.{Action}
+use Rattle.pq_reports.specs.Evidence.{AnswersFor}
 use Rattle.pq_opening.specs.Opening.{HasAnswer}
 use Rattle.pq_console.specs.declared.stop.Stop.{Stop}
 use Rattle.pq_console.specs.declared.stop.Stop.TheVariants as stops
@@ -13,14 +15,13 @@ abbrev pub IsAnsweredDamage : (List ℕ → Option (List ℕ) → Type 0) → Da
 IsAnsweredDamage answers damage = answers damage.key damage.value
     ⊎ ((damage.value ≡ None) × (HasAnswer answers damage.key ⊎ ((n : ℕ) × (damage.key ≡ catalog_key n))))
 
--- where a run stops for damage
+-- where the opening stops for damage
 abbrev pub IsAnsweredStop : (List ℕ → Option (List ℕ) → Type 0) → Stop → Type 0
 IsAnsweredStop answers stops.StoreFailed = Unit {0}
 IsAnsweredStop answers stops.WriteFailed = Unit {0}
 IsAnsweredStop answers stops.NoMem = Unit {0}
 IsAnsweredStop answers (stops.Damaged damage) = IsAnsweredDamage answers damage
 
--- the text ends with the line of such damage
-abbrev pub EndsAnswered : (List ℕ → Option (List ℕ) → Type 0) → List ℕ → Type 0
-EndsAnswered answers text = (damage : Damage) × IsAnsweredDamage answers damage
-    × (front : List ℕ) × (text ≡ front ++ damage_line damage.key)
+-- and where a statement does: by what it asks for, since in a batch the changes of the writes before answer too
+abbrev pub IsAnsweredFor : (List ℕ → Option (List ℕ) → Type 0) → Result Action Refusal → Stop → Type 0
+IsAnsweredFor answers asked stop = IsAnsweredStop (AnswersFor asked answers) stop

@@ -1,5 +1,5 @@
 -- The fold of the steps over the items of a script, and what is written of their reports.
-use Rattle.std.specs.Prelude.{◌≡◌, ℕ, ◌+◌, ◌≤◌, ◌⊎◌, Option, IfErr, IfSome, Bool, false, true, ◌||◌, List, [], ◌∷◌, ◌++◌, length, if◌then◌else◌}
+use Rattle.std.specs.Prelude.{◌≡◌, ℕ, ◌+◌, ◌≤◌, ◌⊎◌, Option, IfSome, Bool, false, true, ◌||◌, List, [], ◌∷◌, ◌++◌, length, if◌then◌else◌}
 use Rattle.std.specs.List.{flat_map, sum_by, list_any}
 use Rattle.std.specs.Io.KnownBytes.{append_known}
 use Rattle.pq_fill.specs.declared.words.Form.{Form}
@@ -11,12 +11,12 @@ use Rattle.pq_intent.specs.Spending.{TakesAtMost}
 use Rattle.pq_print.specs.declared.report.Report.{Report}
 use Rattle.pq_print.specs.Report.{is_refusal}
 use Rattle.pq_statement.specs.Actions.{asked_bound, asked_schema}
-use Rattle.pq_reports.specs.Evidence.{IsEvidence}
+use Rattle.pq_reports.specs.Evidence.{IsEvidenceFor}
 use Rattle.pq_catalog.specs.Model.{Model}
 use Rattle.pq_reports.specs.Matches.{Matches}
 use Rattle.pq_reports.specs.Promise.{IsBound, IsWithinFixed, OnlyReads, StopsAsked}
-use Rattle.pq_reports.specs.Refusing.{CanEnd}
-use Rattle.pq_reports.specs.Step.{unread_report}
+use Rattle.pq_reports.specs.Refusing.{CanEnd, IsUnread}
+use Rattle.pq_shell.specs.Answered.{IsAnsweredFor}
 use Rattle.pq_check.specs.Written.{IsPrepareOf, IsDefinedAs}
 use Rattle.pq_shell.specs.Forms.{item_step, asked_item, shown_report, HasOpening, StandsIn, OpensAt}
 use Rattle.pq_shell.specs.Items.{Item, Cut, Rest}
@@ -50,7 +50,7 @@ pub record IsReport (schema : Schema) (number : ℕ) (item : Item) (report : Rep
   pub bound_is : IsBound (asked_bound schema (asked_item schema item)) report.bound
   pub few_ops : report.used.ops ≤ report.bound.ops
   pub few_entries : report.used.entries ≤ report.bound.entries
-  pub unread_is : IfErr (asked_item schema item) (λ why. report ≡ unread_report number why)
+  pub unread_is : IsUnread number (asked_item schema item) report
   pub can : CanEnd schema (asked_item schema item) report.end
   pub defined_is : DefinesAsWritten schema item report
 
@@ -90,11 +90,22 @@ IsPart form (stops.Damaged damage) schema number todo part before now =
 IsPart form stops.WriteFailed schema number todo part before now = CutsReport form schema number todo part before now
 
 -- damage is named with what shows it in what is there now, for these definitions
-abbrev pub ShowsDamage : Stop → Schema → Option Content → Type 0
-ShowsDamage stops.StoreFailed schema now = Unit {0}
-ShowsDamage stops.WriteFailed schema now = Unit {0}
-ShowsDamage stops.NoMem schema now = Unit {0}
-ShowsDamage (stops.Damaged damage) schema now = IfSome now (λ content. IsEvidence schema content damage)
+abbrev pub ShowsDamage : Stop → Schema → List Item → Option Content → Type 0
+ShowsDamage stops.StoreFailed schema todo now = Unit {0}
+ShowsDamage stops.WriteFailed schema todo now = Unit {0}
+ShowsDamage stops.NoMem schema todo now = Unit {0}
+ShowsDamage (stops.Damaged damage) schema [] now = ⊥
+ShowsDamage (stops.Damaged damage) schema (item ∷ items) now =
+    IfSome now (λ content. IsEvidenceFor (asked_item schema item) schema content damage)
+
+-- and whether the store tells or not, it is damage that the item at hand may be told
+abbrev pub AnswersItem : (List ℕ → Option (List ℕ) → Type 0) → Stop → Schema → List Item → Type 0
+AnswersItem answers stops.StoreFailed schema todo = Unit {0}
+AnswersItem answers stops.WriteFailed schema todo = Unit {0}
+AnswersItem answers stops.NoMem schema todo = Unit {0}
+AnswersItem answers (stops.Damaged damage) schema [] = ⊥
+AnswersItem answers (stops.Damaged damage) schema (item ∷ items) =
+    IsAnsweredFor answers (asked_item schema item) (stops.Damaged damage)
 
 -- ---- what is left of the content, whether it stands for a model or not
 
@@ -175,8 +186,8 @@ pub record ServedItems (form : Form) (first last : Schema) (from to : Moment) (n
   pub refusal : refused_now ≡ (refused || list_any is_refusal reports)
 
 -- some items were made, and then the run stopped
-pub record StoppedItem (form : Form) (stop : Stop) (first : Schema) (from now : Moment) (number : ℕ)
-    (items : List Item) : Type 0 where
+pub record StoppedItem (answers : List ℕ → Option (List ℕ) → Type 0) (form : Form) (stop : Stop) (first : Schema)
+    (from now : Moment) (number : ℕ) (items : List Item) : Type 0 where
   pub done : List Item
   pub todo : List Item
   pub reports : List Report
@@ -189,7 +200,8 @@ pub record StoppedItem (form : Form) (stop : Stop) (first : Schema) (from now : 
   pub text : now.held ≡ append_known from.held (flat_map (shown_report form) reports ++ part)
   pub rises : RisesBy reports from.counts between
   pub part_is : IsPart form stop last (number + length done) todo part between now.counts
-  pub shown : ShowsDamage stop last now.content
+  pub shown : ShowsDamage stop last todo now.content
+  pub answered : AnswersItem answers stop last todo
   pub still : AreStill first done reports → begun ≡ from.content
   pub kept : KeepsItem stop last todo begun now.content
   pub stands : (m : Model) → StandsIn form from.content first m

@@ -33,7 +33,8 @@ abbrev pub moment : Option Content → Option (List ℕ) → Counts → Moment
 moment content held counts = record { content = content; held = held; counts = counts }
 
 -- the run stopped at this item, whatever the sink holds, which was not written to
-abbrev pub BreaksAt : Form → Stop → Item → ℕ → Schema → Option Content → Option Content → Counts → Counts → Type 0
-BreaksAt form stop item number schema old now before after =
-    (held : Option (List ℕ)) → StoppedItem form stop schema (moment old held before) (moment now held after) number
-    (item ∷ [])
+abbrev pub BreaksAt : (List ℕ → Option (List ℕ) → Type 0) → Form → Stop → Item → ℕ → Schema → Option Content
+    → Option Content → Counts → Counts → Type 0
+BreaksAt answers form stop item number schema old now before after =
+    (held : Option (List ℕ)) → StoppedItem answers form stop schema (moment old held before) (moment now held after)
+    number (item ∷ [])

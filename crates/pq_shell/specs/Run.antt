@@ -13,6 +13,7 @@ use Rattle.pq_print.specs.Report.{damage_line, is_refusal}
 use Rattle.pq_print.specs.declared.report.Report.{Report}
 use Rattle.pq_catalog.specs.Model.{Model}
 use Rattle.pq_catalog.specs.Stands.{Opens}
+use Rattle.pq_shell.specs.Answered.{IsAnsweredStop}
 use Rattle.pq_shell.specs.Fold.{Moment, MadeReports, StoppedItem}
 use Rattle.pq_shell.specs.Forms.{HasItems, HasOpening, close}
 use Rattle.pq_shell.specs.Items.{Item}
@@ -74,20 +75,23 @@ HasRead Check left left_now reported = IsReadInParts left left_now reported
 HasRead (Fill n) left left_now reported = left_now ≡ left
 
 -- at the opening, before anything was read
-pub record StopsOpening (form : Form) (stop : Stop) (before now : RunWorld) : Type 0 where
+pub record StopsOpening (answers : List ℕ → Option (List ℕ) → Type 0) (form : Form) (stop : Stop)
+    (before now : RunWorld) : Type 0 where
   pub some : HasOpening form
   pub unread : now.left ≡ before.left
   pub stopped : StoppedOpening stop before.moment now.moment
+  pub answered : IsAnsweredStop answers stop
 
 -- among the items
-pub record StopsLater (form : Form) (stop : Stop) (before now : RunWorld) : Type 0 where
+pub record StopsLater (answers : List ℕ → Option (List ℕ) → Type 0) (form : Form) (stop : Stop)
+    (before now : RunWorld) : Type 0 where
   pub ending : Ending
   pub items : List Item
   pub first : Schema
   pub between : Moment
   pub read : HasItems form ending before.left now.left items
   pub opening : Opening form first before.moment between
-  pub stopped : StoppedItem form stop first between now.moment 1 items
+  pub stopped : StoppedItem answers form stop first between now.moment 1 items
   pub in_parts : HasRead form before.left now.left (length stopped.done)
 
 -- behind the last item: what closes the run is cut, or there is no memory for it
@@ -106,17 +110,19 @@ pub record StopsClosing (form : Form) (stop : Stop) (before now : RunWorld) : Ty
   pub text : now.moment.held ≡ append_known held part
   pub part_is : IsClosingPart stop part (close form ran.opening.opened ran.reports)
 
-pub data BrokenRun (form : Form) (stop : Stop) (before now : RunWorld) : Type 0 where
-  AtOpening : StopsOpening form stop before now → BrokenRun form stop before now
-  AtItem : StopsLater form stop before now → BrokenRun form stop before now
-  AtClose : StopsClosing form stop before now → BrokenRun form stop before now
+pub data BrokenRun (answers : List ℕ → Option (List ℕ) → Type 0) (form : Form) (stop : Stop)
+    (before now : RunWorld) : Type 0 where
+  AtOpening : StopsOpening answers form stop before now → BrokenRun answers form stop before now
+  AtItem : StopsLater answers form stop before now → BrokenRun answers form stop before now
+  AtClose : StopsClosing form stop before now → BrokenRun answers form stop before now
 
 -- damage was found, and so much of the line that names its key is out behind whole reports
-pub record NamesDamage (form : Form) (IsTail : List ℕ → List ℕ → Type 0) (before now : RunWorld) : Type 0 where
+pub record NamesDamage (answers : List ℕ → Option (List ℕ) → Type 0) (form : Form)
+    (IsTail : List ℕ → List ℕ → Type 0) (before now : RunWorld) : Type 0 where
   pub damage : Damage
   pub held : Option (List ℕ)
   pub line : List ℕ
-  pub broken : BrokenRun form (stops.Damaged damage) before (written_world now held)
+  pub broken : BrokenRun answers form (stops.Damaged damage) before (written_world now held)
   pub tail : IsTail line (damage_line damage.key)
   pub text : now.moment.held ≡ append_known held line
 
@@ -128,17 +134,18 @@ IsMeant Run = Unit {0}
 IsMeant Check = Unit {0}
 IsMeant (Fill n) = (1 ≤ n) × (n ≤ 20000)
 
-abbrev pub Ends : Form → Status → RunWorld → RunWorld → Type 0
-Ends form status.Good before now = FinishedRun form Whole false before now
-Ends form status.SomeRefused before now = FinishedRun form Whole true before now
-Ends form status.Usage before now = ⊥
-Ends form status.ReadFault before now = (refused : Bool) × FinishedRun form Faulted refused before now
-Ends form status.WriteFault before now = BrokenRun form stops.WriteFailed before now ⊎ NamesDamage form IsCut before now
-Ends form status.StoreFault before now = BrokenRun form stops.StoreFailed before now
-Ends form status.Damaged before now = NamesDamage form (λ line whole. line ≡ whole) before now
-Ends form status.NoMem before now = BrokenRun form stops.NoMem before now
-    ⊎ NamesDamage form (λ line whole. line ≡ []) before now
-Ends form status.TooLong before now = (refused : Bool) × FinishedRun form TooLong refused before now
+abbrev pub Ends : (List ℕ → Option (List ℕ) → Type 0) → Form → Status → RunWorld → RunWorld → Type 0
+Ends answers form status.Good before now = FinishedRun form Whole false before now
+Ends answers form status.SomeRefused before now = FinishedRun form Whole true before now
+Ends answers form status.Usage before now = ⊥
+Ends answers form status.ReadFault before now = (refused : Bool) × FinishedRun form Faulted refused before now
+Ends answers form status.WriteFault before now =
+    BrokenRun answers form stops.WriteFailed before now ⊎ NamesDamage answers form IsCut before now
+Ends answers form status.StoreFault before now = BrokenRun answers form stops.StoreFailed before now
+Ends answers form status.Damaged before now = NamesDamage answers form (λ line whole. line ≡ whole) before now
+Ends answers form status.NoMem before now = BrokenRun answers form stops.NoMem before now
+    ⊎ NamesDamage answers form (λ line whole. line ≡ []) before now
+Ends answers form status.TooLong before now = (refused : Bool) × FinishedRun form TooLong refused before now
 
 -- the status of a script whose items were all made
 abbrev pub status_of : Ending → Bool → Status

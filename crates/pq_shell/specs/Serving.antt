@@ -43,13 +43,13 @@ pub record ConsumedSource (form : Form) (ending : Ending) (left left_now : Optio
   pub progressed : ProgressedRun form first last from to bytes old now
 
 -- the run stopped among the pieces of the part that was read last
-pub record StoppedAmong (form : Form) (stop : Stop) (left left_now : Option (List ℕ)) (first : Schema)
-    (from now : Moment) (old : Progress) : Type 0 where
+pub record StoppedAmong (answers : List ℕ → Option (List ℕ) → Type 0) (form : Form) (stop : Stop)
+    (left left_now : Option (List ℕ)) (first : Schema) (from now : Moment) (old : Progress) : Type 0 where
   pub early : List ℕ
   pub late : List ℕ
   pub took : TookBytes Faulted left left_now (early ++ late)
   pub few : length late ≤ 4096
-  pub stopped : StoppedItem form stop first from now (old.tally.count + 1)
+  pub stopped : StoppedItem answers form stop first from now (old.tally.count + 1)
       (cut_items (pieces_from old.splitter (early ++ late)))
   pub reported : length (pieces_from old.splitter early) ≤ length stopped.done
 

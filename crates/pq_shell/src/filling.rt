@@ -8,7 +8,6 @@ ghost use Rattle.pq_shell.specs.Fold.{StoppedItem};
 ghost use Rattle.pq_shell.specs.Forms.{fill_items};
 ghost use Rattle.pq_shell.specs.Making.{moment};
 ghost use Rattle.pq_console.specs.Stops.{Causes};
-ghost use Rattle.pq_shell.specs.Answered.{IsAnsweredStop};
 
 use crate::serving::make;
 use pq_base::{NoMem, Used};
@@ -54,10 +53,9 @@ pub fn fill_store<S: Store<L>, L: Ledger>(
         → Fills n session used (moment (S.content store.old) held meter.old)
         (moment (S.content store.new) held meter.new) filled) }
     ensures err { IfErr result (λ stop. (held : Option (List ℕ))
-        → StoppedItem (Form.Fill n) stop session (moment (S.content store.old) held meter.old)
+        → StoppedItem S.answers (Form.Fill n) stop session (moment (S.content store.old) held meter.old)
         (moment (S.content store.new) held meter.new) 1 (fill_items n)) }
     ensures causes { Causes (S.faults store.old) (S.faults store.new) 0 0 result }
-    ensures answered { IfErr result (IsAnsweredStop S.answers) }
 {
     let count = fill_count(n);
     let mut session = session;

@@ -14,7 +14,7 @@ ghost use Rattle.pq_console.specs.Reading.{CountsBytes, script_limit};
 ghost use Rattle.pq_shell.specs.Run.{BrokenRun, Closes, Ends, EndsDamaged, FinishedRun, IsMeant, IsPlain, OpensFor, status_of, run_world};
 ghost use Rattle.pq_shell.specs.Serving.{ConsumedSource, StoppedAmong};
 ghost use Rattle.pq_console.specs.Stops.{Causes};
-ghost use Rattle.pq_shell.specs.Answered.{IsAnsweredStop, EndsAnswered};
+ghost use Rattle.pq_shell.specs.Answered.{IsAnsweredStop};
 
 use crate::filling::fill_store;
 use crate::serving::{Ended, Progress, finish, run_part};
@@ -124,12 +124,11 @@ fn run_source<S: Store<L>, I: Source, O: Sink, L: Ledger>(
         × ConsumedSource form ending (I.left source.old) (I.left source.new) session last
         (moment (S.content store.old) (O.held sink.old) meter.old)
         (moment (S.content store.new) (O.held sink.new) meter.new) progress.old progress.new) }
-    ensures err { IfErr result (λ stop. StoppedAmong form stop (I.left source.old) (I.left source.new) session
+    ensures err { IfErr result (λ stop. StoppedAmong S.answers form stop (I.left source.old) (I.left source.new) session
         (moment (S.content store.old) (O.held sink.old) meter.old)
         (moment (S.content store.new) (O.held sink.new) meter.new) progress.old) }
     ensures unmoved { form ≡ Form.Check → (store.new ≡ store.old) × (meter.new ≡ meter.old) }
     ensures causes { Causes (S.faults store.old) (S.faults store.new) (O.faults sink.old) (O.faults sink.new) result }
-    ensures answered { IfErr result (IsAnsweredStop S.answers) }
     ensures taken { (taken : List ℕ) × (I.left source.old ≡ prepend_known taken (I.left source.new))
         × (length taken ≤ script_limit + 1) }
     ensures counted { IfOk result (λ ending. CountsBytes ending (I.count source.old) (I.count source.new)) }
@@ -178,7 +177,7 @@ fn run_script<S: Store<L>, I: Source, O: Sink, L: Ledger>(
     ensures ok { IfOk result (λ ended. FinishedRun form ended.ending ended.refused
         (run_world (I.left source.old) (S.content store.old) (O.held sink.old) meter.old)
         (run_world (I.left source.new) (S.content store.new) (O.held sink.new) meter.new)) }
-    ensures err { IfErr result (λ stop. BrokenRun form stop
+    ensures err { IfErr result (λ stop. BrokenRun S.answers form stop
         (run_world (I.left source.old) (S.content store.old) (O.held sink.old) meter.old)
         (run_world (I.left source.new) (S.content store.new) (O.held sink.new) meter.new)) }
     ensures flawed { HasOpening form → IfSome (S.content store.old)
@@ -186,7 +185,6 @@ fn run_script<S: Store<L>, I: Source, O: Sink, L: Ledger>(
         → StopsAtFlaw key result (O.held sink.old) (O.held sink.new)) }
     ensures unmoved { form ≡ Form.Check → (store.new ≡ store.old) × (meter.new ≡ meter.old) }
     ensures causes { Causes (S.faults store.old) (S.faults store.new) (O.faults sink.old) (O.faults sink.new) result }
-    ensures answered { IfErr result (IsAnsweredStop S.answers) }
     ensures taken { (taken : List ℕ) × (I.left source.old ≡ prepend_known taken (I.left source.new))
         × (length taken ≤ script_limit + 1) }
     ensures counted { IfOk result (λ ended. CountsBytes ended.ending (I.count source.old) (I.count source.new)) }
@@ -223,14 +221,13 @@ fn run_fill<S: Store<L>, O: Sink, L: Ledger>(
         (run_world left (S.content store.old) (O.held sink.old) meter.old)
         (run_world left (S.content store.new) (O.held sink.new) meter.new)) }
     ensures whole { IfOk result (λ ended. ended.ending ≡ Ending.Whole) }
-    ensures err { IfErr result (λ stop. (left : Option (List ℕ)) → BrokenRun (Form.Fill n) stop
+    ensures err { IfErr result (λ stop. (left : Option (List ℕ)) → BrokenRun S.answers (Form.Fill n) stop
         (run_world left (S.content store.old) (O.held sink.old) meter.old)
         (run_world left (S.content store.new) (O.held sink.new) meter.new)) }
     ensures flawed { IfSome (S.content store.old)
         (λ pairs. (key : List ℕ) → IsFlaw pairs key
         → StopsAtFlaw key result (O.held sink.old) (O.held sink.new)) }
     ensures causes { Causes (S.faults store.old) (S.faults store.new) (O.faults sink.old) (O.faults sink.new) result }
-    ensures answered { IfErr result (IsAnsweredStop S.answers) }
 {
     let begun = begin(alloc, Form::Fill(n), store, meter, sink)?;
     let filled = fill_store(alloc, n, begun.session, begun.used, store, meter)?;
@@ -254,7 +251,7 @@ fn run_form<S: Store<L>, I: Source, O: Sink, L: Ledger>(
     ensures ok { IfOk result (λ ended. FinishedRun form ended.ending ended.refused
         (run_world (I.left source.old) (S.content store.old) (O.held sink.old) meter.old)
         (run_world (I.left source.new) (S.content store.new) (O.held sink.new) meter.new)) }
-    ensures err { IfErr result (λ stop. BrokenRun form stop
+    ensures err { IfErr result (λ stop. BrokenRun S.answers form stop
         (run_world (I.left source.old) (S.content store.old) (O.held sink.old) meter.old)
         (run_world (I.left source.new) (S.content store.new) (O.held sink.new) meter.new)) }
     ensures flawed { HasOpening form → IfSome (S.content store.old)
@@ -263,7 +260,6 @@ fn run_form<S: Store<L>, I: Source, O: Sink, L: Ledger>(
     ensures unmoved { form ≡ Form.Check → (store.new ≡ store.old) × (meter.new ≡ meter.old) }
     ensures unread { (n : ℕ) → form ≡ Form.Fill n → source.new ≡ source.old }
     ensures causes { Causes (S.faults store.old) (S.faults store.new) (O.faults sink.old) (O.faults sink.new) result }
-    ensures answered { IfErr result (IsAnsweredStop S.answers) }
     ensures taken { (taken : List ℕ) × (I.left source.old ≡ prepend_known taken (I.left source.new))
         × (length taken ≤ script_limit + 1) }
     ensures counted { IfOk result (λ ended. CountsBytes ended.ending (I.count source.old) (I.count source.new)) }
@@ -332,7 +328,7 @@ fn run<S: Store<L>, I: Source, O: Sink, L: Ledger>(
     meter: &mut Meter<L>,
 ) -> Status
     requires { IsMeant form }
-    ensures ends { Ends form result
+    ensures ends { Ends S.answers form result
         (run_world (I.left source.old) (S.content store.old) (O.held sink.old) meter.old)
         (run_world (I.left source.new) (S.content store.new) (O.held sink.new) meter.new) }
     ensures flawed { HasOpening form → IfSome (S.content store.old)
@@ -343,7 +339,6 @@ fn run<S: Store<L>, I: Source, O: Sink, L: Ledger>(
     ensures read_fault { result ≡ Status.ReadFault → HasRisen (I.faults source.old) (I.faults source.new) }
     ensures write_fault { result ≡ Status.WriteFault → HasRisen (O.faults sink.old) (O.faults sink.new) }
     ensures store_fault { result ≡ Status.StoreFault → HasRisen (S.faults store.old) (S.faults store.new) }
-    ensures answered { result ≡ Status.Damaged → IfSome (O.held sink.new) (EndsAnswered S.answers) }
     ensures taken { (taken : List ℕ) × (I.left source.old ≡ prepend_known taken (I.left source.new))
         × (length taken ≤ script_limit + 1) }
     ensures reads { I.count source.new ≤ I.count source.old + (script_limit + 1) }
@@ -368,7 +363,7 @@ pub fn run_piql<S: Store<L>, I: Source, O: Sink, L: Ledger>(
     sink: &mut O,
     meter: &mut Meter<L>,
 ) -> Status
-    ensures ends { (form : Declared) → IsForm form words.now → Ends form result
+    ensures ends { (form : Declared) → IsForm form words.now → Ends S.answers form result
         (run_world (I.left source.old) (S.content store.old) (O.held sink.old) meter.old)
         (run_world (I.left source.new) (S.content store.new) (O.held sink.new) meter.new) }
     // Where the intent or the catalog of a told content is flawed, the line of the first flaw is all that
@@ -386,8 +381,6 @@ pub fn run_piql<S: Store<L>, I: Source, O: Sink, L: Ledger>(
     ensures read_fault { result ≡ Status.ReadFault → HasRisen (I.faults source.old) (I.faults source.new) }
     ensures write_fault { result ≡ Status.WriteFault → HasRisen (O.faults sink.old) (O.faults sink.new) }
     ensures store_fault { result ≡ Status.StoreFault → HasRisen (S.faults store.old) (S.faults store.new) }
-    // Whether the store tells or not, the line of a damage names what a call of the store may have answered.
-    ensures answered { result ≡ Status.Damaged → IfSome (O.held sink.new) (EndsAnswered S.answers) }
     ensures taken { (taken : List ℕ) × (I.left source.old ≡ prepend_known taken (I.left source.new))
         × (length taken ≤ script_limit + 1) }
     // Whether the source tells or not, at most as many bytes are taken as a script may have, and one; and so many

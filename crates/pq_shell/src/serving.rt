@@ -7,7 +7,6 @@ ghost use Rattle.pq_shell.specs.Items.{Cut, cut_items};
 ghost use Rattle.pq_shell.specs.Making.{BreaksAt, ReadsSource, MakesItem, moment};
 ghost use Rattle.pq_shell.specs.Serving.{ProgressedRun, ReportsRest, StoppedAtRest, has_rest, rest_report};
 ghost use Rattle.pq_console.specs.Stops.{Causes};
-ghost use Rattle.pq_shell.specs.Answered.{IsAnsweredStop};
 
 use pq_base::{Bound, List, NoMem, Refusal, Used};
 use pq_catalog::PlannedCatalog;
@@ -85,11 +84,10 @@ pub fn make<S: Store<L>, L: Ledger>(
 ) -> Result<(PlannedCatalog, Report), Stop>
     ensures ok { IfOk result (λ p. MakesItem form (Cut piece.now) number session p.0 (S.content store.old)
         (S.content store.new) meter.old meter.new p.1) }
-    ensures err { IfErr result (λ stop. BreaksAt form stop (Cut piece.now) number session (S.content store.old)
-        (S.content store.new) meter.old meter.new) }
+    ensures err { IfErr result (λ stop. BreaksAt S.answers form stop (Cut piece.now) number session
+        (S.content store.old) (S.content store.new) meter.old meter.new) }
     ensures unmoved { form ≡ Form.Check → (store.new ≡ store.old) × (meter.new ≡ meter.old) }
     ensures causes { Causes (S.faults store.old) (S.faults store.new) 0 0 result }
-    ensures answered { IfErr result (IsAnsweredStop S.answers) }
 {
     match form {
         Form::Check => match check(alloc, session, number, piece) {
@@ -121,13 +119,12 @@ pub fn serve<S: Store<L>, O: Sink, L: Ledger>(
         (moment (S.content store.new) (O.held sink.new) meter.new)
         (tally.old.count + 1) (Cut piece.now ∷ []) tally.old.refused tally.new.refused) }
     ensures count { OnOk result (tally.new.count ≡ tally.old.count + 1) }
-    ensures err { IfErr result (λ stop. StoppedItem form stop session
+    ensures err { IfErr result (λ stop. StoppedItem S.answers form stop session
         (moment (S.content store.old) (O.held sink.old) meter.old)
         (moment (S.content store.new) (O.held sink.new) meter.new)
         (tally.old.count + 1) (Cut piece.now ∷ [])) }
     ensures unmoved { form ≡ Form.Check → (store.new ≡ store.old) × (meter.new ≡ meter.old) }
     ensures causes { Causes (S.faults store.old) (S.faults store.new) (O.faults sink.old) (O.faults sink.new) result }
-    ensures answered { IfErr result (IsAnsweredStop S.answers) }
 {
     let number = tally.count + 1;
     let (next, report) = make(alloc, form, session, number, piece, store, meter)?;
@@ -153,13 +150,12 @@ pub fn run_part<S: Store<L>, O: Sink, L: Ledger>(
         (moment (S.content store.old) (O.held sink.old) meter.old)
         (moment (S.content store.new) (O.held sink.new) meter.new)
         bytes.now progress.old progress.new) }
-    ensures err { IfErr result (λ stop. StoppedItem form stop session
+    ensures err { IfErr result (λ stop. StoppedItem S.answers form stop session
         (moment (S.content store.old) (O.held sink.old) meter.old)
         (moment (S.content store.new) (O.held sink.new) meter.new)
         (progress.old.tally.count + 1) (cut_items (pieces_from progress.old.splitter bytes.now))) }
     ensures unmoved { form ≡ Form.Check → (store.new ≡ store.old) × (meter.new ≡ meter.old) }
     ensures causes { Causes (S.faults store.old) (S.faults store.new) (O.faults sink.old) (O.faults sink.new) result }
-    ensures answered { IfErr result (IsAnsweredStop S.answers) }
 {
     let mut session = session;
     let mut at = 0;

@@ -1,3 +1,4 @@
 pub mod Asking
+pub mod Batches
 pub mod Found
 pub mod Statements

@@ -17,7 +17,9 @@ use Rattle.pq_shape.specs.Faults.{offset_at}
 use Rattle.pq_def_read.specs.Reading.{statement_of}
 use Rattle.pq_def_read.specs.declared.statement.Statement.{Statement}
 use Rattle.pq_def_read.specs.declared.statement.Statement.TheVariants as statement
+use Rattle.pq_def_read.specs.declared.write.WriteDef.{WriteDef}
 use Rattle.pq_builds.specs.Bounds.{bound, fixed_bound as prepare_bound}
+use Rattle.pq_batch.specs.Batches.{batch_bound}
 use Rattle.pq_counters.specs.Bounds.{whole_bound}
 use Rattle.pq_index_keep.specs.Checking.{checked_write}
 use Rattle.pq_index_keep.specs.declared.write.Write.{Write}
@@ -25,12 +27,15 @@ use Rattle.pq_running.specs.Running.{Running, running_of, query_bound}
 use Rattle.pq_print.specs.Report.{is_refusal}
 use Rattle.pq_print.specs.declared.report.Report.{Report}
 use Rattle.pq_planning.specs.Planning.{PlannedDefinition, prepared_from, explained_from, selected_from}
+use Rattle.pq_statement.specs.Batches.{checked_writes, unless_many}
 use Rattle.pq_statement.specs.Readings.{Reading, reading_of}
 
 pub data Action : Type 0 where
   Creates : Table → Action
   Adds : AlterDef → Action
   Writes : Write → Action
+  Batches : List Write → Action
+  Misreads : ℕ → Refusal → Action
   Prepares : PlannedDefinition → Action
   Explains : PlannedDefinition → Action
   Runs : Running → Action
@@ -44,11 +49,21 @@ abbrev pub action_from : {A : Type 0} → (A → Action) → Result A Refusal �
 action_from action (Ok found) = Ok (action found)
 action_from action (Err why) = Err why
 
+-- a batch of which a write is refused by reading is refused by it, by its place from 1
+abbrev pub batch_action : Result (List Write) (ℕ × Refusal) → Action
+batch_action (Ok writes) = Batches writes
+batch_action (Err first) = Misreads first.0 first.1
+
+-- a batch has at most 256 writes, and that comes before what each of them is
+abbrev pub batch_asked : Schema → List WriteDef → Result Action Refusal
+batch_asked schema defs = unless_many defs (batch_action (checked_writes schema 1 defs))
+
 -- what a statement asks for
 abbrev pub asked_by : Schema → List ℕ → List Token → Statement → Result Action Refusal
 asked_by schema text tokens (statement.Create def) = action_from Creates (new_table schema def)
 asked_by schema text tokens (statement.Alter def) = action_from (λ next. Adds def) (new_column schema def)
 asked_by schema text tokens (statement.Write write) = action_from Writes (checked_write schema write)
+asked_by schema text tokens (statement.Batch defs) = batch_asked schema defs
 asked_by schema text tokens (statement.Prepare name from) =
     action_from Prepares (prepared_from schema name text tokens from)
 asked_by schema text tokens (statement.Explain from) = action_from Explains (explained_from schema text tokens from)
@@ -83,6 +98,8 @@ abbrev pub action_bound : Schema → Action → Option Bound
 action_bound schema (Creates table) = Some (bound 1 0)
 action_bound schema (Adds def) = Some (bound 1 0)
 action_bound schema (Writes write) = Some (whole_bound schema write)
+action_bound schema (Batches writes) = Some (batch_bound schema writes)
+action_bound schema (Misreads place cause) = Some (bound 0 0)
 action_bound schema (Prepares plan) = prepare_bound plan.chosen.wanted
 action_bound schema (Explains plan) = Some (bound 0 0)
 action_bound schema (Runs running) = Some (query_bound schema.tables running.query)
@@ -103,6 +120,8 @@ abbrev pub action_schema : Schema → Action → Schema
 action_schema schema (Creates table) = with_table schema table
 action_schema schema (Adds def) = altered_schema schema def
 action_schema schema (Writes write) = schema
+action_schema schema (Batches writes) = schema
+action_schema schema (Misreads place cause) = schema
 action_schema schema (Prepares plan) = with_query schema plan.query plan.chosen.wanted
 action_schema schema (Explains plan) = schema
 action_schema schema (Runs running) = schema

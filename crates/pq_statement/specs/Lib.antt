@@ -1,3 +1,4 @@
 pub mod Actions
+pub mod Batches
 pub mod Readings
 pub mod Requests

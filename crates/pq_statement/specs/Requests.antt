@@ -5,10 +5,11 @@ use Rattle.pq_base.specs.declared.refusal.Refusal.{Refusal}
 use Rattle.pq_schema.specs.Definitions.{new_column, new_counter, new_table, definition_refusal}
 use Rattle.pq_schema.specs.Names.{IsName, IsTableDef, IsAlterDef, IsCounterDef}
 use Rattle.pq_schema.specs.Schema.{Schema, query_at}
+use Rattle.pq_batch.specs.Promises.{IsBatch}
 use Rattle.pq_index_keep.specs.Sound.{IsWrite}
 use Rattle.pq_nodes.specs.Operators.{IsCursor}
 use Rattle.pq_running.specs.Running.{IsQueryNumber, Running, running_with}
-use Rattle.pq_statement.specs.Actions.{Action, Creates, Adds, Writes, Prepares, Explains, Runs, Counts, Reads, Shows, Selects, action_from}
+use Rattle.pq_statement.specs.Actions.{Action, Creates, Adds, Writes, Batches, Misreads, Prepares, Explains, Runs, Counts, Reads, Shows, Selects, action_from}
 use Rattle.pq_planning.specs.Planned.{IsComputed, IsOnce, IsPlanOf}
 use Rattle.pq_planning.specs.Planning.{PlannedDefinition}
 use Rattle.pq_statement.specs.Readings.{Reading, IsReading}
@@ -48,6 +49,8 @@ Asks schema (request.Create def) asked = IsTableDef def × (asked ≡ action_fro
 Asks schema (request.Alter def) asked =
     IsAlterDef def × (asked ≡ action_from (λ next. Adds def) (new_column schema def))
 Asks schema (request.Write write) asked = IsWrite schema.tables write × (asked ≡ Ok (Writes write))
+Asks schema (request.Batch writes) asked = IsBatch schema writes × (asked ≡ Ok (Batches writes))
+Asks schema (request.Misread place cause) asked = asked ≡ Ok (Misreads place cause)
 Asks schema (request.Prepare computed) asked = IsDefinable schema computed × IsPlannedAs Prepares asked computed
 Asks schema (request.Explain computed) asked = IsComputed schema.tables computed × IsPlannedAs Explains asked computed
 Asks schema (request.Run run) asked = (found : Result Running Refusal) × RunsAs schema run found

@@ -8,7 +8,8 @@ ghost use Rattle.pq_schema.specs.Definitions.{definition_refusal};
 ghost use Rattle.pq_schema.specs.Resolved.{param_type};
 ghost use Rattle.pq_schema.specs.Tables.{types_at};
 ghost use Rattle.pq_text.specs.Tokens.{tokens_of};
-ghost use Rattle.pq_statement.specs.Actions.{Writes, action_from, action_of, asked_by, asked_text};
+ghost use Rattle.pq_statement.specs.Actions.{Writes, action_from, action_of, asked_by, asked_text, batch_action, batch_asked};
+ghost use Rattle.pq_statement.specs.Batches.{HasWrites, checked_writes};
 ghost use Rattle.pq_planning.specs.Names.{IsNamedStatement};
 ghost use Rattle.pq_planning.specs.Planned.{IsPlanned};
 ghost use Rattle.pq_planning.specs.Planning.{arranged_from, prepared_from};
@@ -27,6 +28,9 @@ use std::alloc::Global;
 
 /// The greatest number of bytes of a statement.
 const STATEMENT_BYTES: usize = 65536;
+
+/// The greatest number of writes of a batch.
+const BATCH_WRITES: usize = 256;
 
 /// A defined query, by its number, with parameters and the position behind which its page begins.
 pub struct RunRequest {
@@ -70,6 +74,10 @@ pub enum Request {
     /// Whether a column is refused is found as it is added.
     Alter(AlterDef),
     Write(Write),
+    /// From 1 to 256 writes, which are made as one.
+    Batch(List<Write>),
+    /// A batch of which the write at this place, from 1, is refused by reading.
+    Misread { place: u16, cause: Refusal },
     Prepare(PlannedQuery),
     Explain(PlannedQuery),
     Run(RunRequest),
@@ -116,6 +124,7 @@ fn asked_by(
 ) -> Result<Request, Stopped>
     requires spelled { tokens.now ≡ tokens_of text.now }
     requires named { IsNamedStatement tokens.now statement }
+    requires some { HasWrites statement }
     ensures asks { IfOk result
         (λ request. Asks catalog.now request (asked_by catalog.now text.now tokens.now statement)) }
     ensures refused { IfErr result (λ stopped. Refuses stopped (asked_by catalog.now text.now tokens.now statement)) }
@@ -151,6 +160,7 @@ fn asked_by(
             Ok(Request::Select(plan))
         }
         Statement::Write(write) => asked_write(alloc, catalog, &write),
+        Statement::Batch(writes) => asked_batch(alloc, catalog, writes.items()),
     }
 }
 
@@ -163,6 +173,40 @@ fn asked_write(alloc: Global, catalog: &Catalog, write: &WriteDef) -> Result<Req
 {
     let write = check_write(alloc, catalog, write)?;
     Ok(Request::Write(write))
+}
+
+/// What a BATCH of these writes asks for.
+fn asked_batch(alloc: Global, catalog: &Catalog, defs: &[WriteDef]) -> Result<Request, Stopped>
+    requires { 1 ≤ length defs.now }
+    ensures asks { IfOk result (λ request. Asks catalog.now request (batch_asked catalog.now defs.now)) }
+    ensures refused { IfErr result (λ stopped. Refuses stopped (batch_asked catalog.now defs.now)) }
+{
+    if defs.len() > BATCH_WRITES {
+        return Err(Stopped::Refused(Refusal::Count {
+            word: count_word::WRITES,
+        }));
+    }
+    Ok(asked_writes(alloc, catalog, defs)?)
+}
+
+/// The batch of these writes, or of the first that is refused by reading its place and the cause.
+fn asked_writes(alloc: Global, catalog: &Catalog, defs: &[WriteDef]) -> Result<Request, NoMem>
+    requires some { 1 ≤ length defs.now }
+    requires few { length defs.now ≤ 256 }
+    ensures { IfOk result
+        (λ request. Asks catalog.now request (Ok (batch_action (checked_writes catalog.now 1 defs.now)))) }
+{
+    let mut writes = List::new(alloc);
+    let mut place = 1;
+    for def in defs {
+        match check_write(alloc, catalog, def) {
+            Ok(write) => writes.push(alloc, write)?,
+            Err(Stopped::Refused(cause)) => return Ok(Request::Misread { place, cause }),
+            Err(Stopped::NoMem) => return Err(NoMem),
+        }
+        place += 1;
+    }
+    Ok(Request::Batch(writes))
 }
 
 /// The query of this name that the tokens from a place on spell, arranged, with its plan, where it may be

@@ -30,6 +30,7 @@ use Rattle.pq_running.specs.Running.{Running, next_of, page_combos, page_size, q
 use Rattle.pq_pages.specs.Paging.{IsAnswerOf, IsAnswerOver, IsPageOf, IsPageOver}
 use Rattle.pq_pages.specs.declared.page.Page.{Page}
 use Rattle.pq_reports.specs.Evidence.{TellsEvidence}
+use Rattle.pq_reports.specs.Refusing.{IsUnread}
 use Rattle.pq_reports.specs.Matches.{Matches}
 use Rattle.pq_catalog.specs.Kept.{IsKeptPlan}
 use Rattle.pq_catalog.specs.Model.{Model}
@@ -40,7 +41,7 @@ use Rattle.pq_step.specs.Paged.{page_report}
 use Rattle.pq_catalog.specs.Stands.{Stands, others_of}
 use Rattle.pq_statement.specs.Actions.{Action, Runs, Selects, action_bound, action_schema}
 use Rattle.pq_reports.specs.Step.{Step, action_step, answer_of, page_of, report_step}
-use Rattle.pq_reports.proofs.Promises.{broken_kept, within_step}
+use Rattle.pq_reports.proofs.Promises.{broken_kept, shown_for, within_step}
 use Rattle.pq_write.proofs.Writing.{settled_rows}
 
 -- ---- rows of a query
@@ -50,6 +51,7 @@ record TellsRows (number : ℕ) (query : Query) (schema : Schema) (action : Acti
   pub step_is : (m : Model) → action_step m number action ≡ report_step m (report m)
   pub bound_is : action_bound schema action ≡ Some (query_bound schema.tables query)
   pub schema_is : schema ≡ action_schema schema action
+  pub unread : (told : Report) → IsUnread number (Ok action) told
 
 module _ (number : ℕ) (query : Query) (schema : Schema) (action : Action) (report : Model → Report) (tells : TellsRows number query schema action report) where
   abbrev most : Bound
@@ -86,7 +88,7 @@ module _ (number : ℕ) (query : Query) (schema : Schema) (action : Action) (rep
         refused = λ refusal. absurd refusal;
         accepted = λ _. tells.schema_is;
         numbered = refl;
-        unread = tt;
+        unread = tells.unread (page_report number page);
         can = tt;
         reads = λ _. same;
       }
@@ -105,7 +107,8 @@ module _ (number : ℕ) (query : Query) (schema : Schema) (action : Action) (rep
       broken_kept number (Ok action) old now schema before later error same
       (λ m s. sound m.rows (others_of m) (settled_rows old schema m s))
       (subst (λ (o : Option Bound). IsWithinFixed o before later) (sym tells.bound_is) (within_rows before later rises))
-      (within_step number action old schema most before later tells.bound_is (within_rows before later rises)) (read_shown old error shows)
+      (within_step number action old schema most before later tells.bound_is (within_rows before later rises))
+      (shown_for (Ok action) old schema error (read_shown old error shows))
 
 -- over the schema that is known the bound is that of the model
 known_bound : (schema : Schema) (m : Model) (query : Query) (told : Bound) → schema ≡ m.schema → told ≡ query_bound schema.tables query → told ≡ query_bound m.schema.tables query
@@ -126,7 +129,7 @@ page_reported m number run page is most =
 
 module _ (number : ℕ) (run : Running) (schema : Schema) where
   abbrev tells_page : TellsRows number run.query schema (Runs run) (λ m. page_of m number run)
-  tells_page = record { step_is = λ m. refl; bound_is = refl; schema_is = refl }
+  tells_page = record { step_is = λ m. refl; bound_is = refl; schema_is = refl; unread = λ told. tt }
 
   -- a page of the rows, on the query's bound
   pub page_done : (old now : Option Content) (before later : Counts) (page : Page) → IsPageOf old schema.tables run page → page.bound ≡ query_bound schema.tables run.query
@@ -172,6 +175,7 @@ module _ (number : ℕ) (plan : PlannedDefinition) (query : Query) (schema : Sch
     step_is = λ m. refl;
     bound_is = ap (λ (q : Query). Some (query_bound schema.tables q)) query_is;
     schema_is = refl;
+    unread = λ told. tt;
   }
 
   pub answer_done : (old now : Option Content) (before later : Counts) (page : Page) → IsAnswerOf old schema.tables query page → page.bound ≡ query_bound schema.tables query

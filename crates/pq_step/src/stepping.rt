@@ -6,14 +6,14 @@ ghost use Rattle.pq_base.specs.declared.refusal.Refusal.{Refusal};
 ghost use Rattle.pq_catalog.specs.Model.{Model as Tables};
 ghost use Rattle.pq_store.specs.Breaks.{IsUndamaged, IsAnsweredBut};
 ghost use Rattle.pq_reports.specs.Matches.{Matches};
-ghost use Rattle.pq_reports.specs.Evidence.{TellsEvidence};
+ghost use Rattle.pq_reports.specs.Evidence.{AnswersFor, TellsEvidenceFor};
 ghost use Rattle.pq_statement.specs.Actions.{Action, action_of, schema_after, statement_bound};
 ghost use Rattle.pq_reports.specs.Promise.{Promises, IsBound, IsRefusal, IsWithinFixed, KeepsDamaged, OnlyReads};
-ghost use Rattle.pq_reports.specs.Refusing.{CanEnd};
+ghost use Rattle.pq_reports.specs.Refusing.{CanEnd, IsUnread};
 ghost use Rattle.pq_statement.specs.Requests.{Asks, IsRequest};
 ghost use Rattle.pq_catalog.specs.Stands.{Stands, Opens, next_key};
 ghost use Rattle.pq_builds.specs.Bounds.{bound};
-ghost use Rattle.pq_reports.specs.Step.{step, unread_report};
+ghost use Rattle.pq_reports.specs.Step.{step};
 ghost use Rattle.pq_check.specs.Written.{IsPrepareOf, IsDefinedAs};
 ghost use Rattle.pq_print.specs.Report.{is_refusal};
 ghost use Rattle.pq_schema.specs.declared.query.Query.{Query};
@@ -25,11 +25,11 @@ use pq_base::{NoMem, Stopped};
 use pq_catalog::PlannedCatalog;
 use pq_define::{add_column, create, create_counter};
 use pq_print::Report;
-use pq_reports::{plan_report, request_of, show, unread_report};
+use pq_reports::{misread_report, plan_report, request_of, show, unread_report};
 use pq_statement::Request;
 use pq_store::{Broke, Meter, Store};
 use pq_text::Piece;
-use pq_write::{make_write, read_count};
+use pq_write::{make_batch, make_write, read_count};
 use std::alloc::Global;
 use std::sync::ledger::Ledger;
 
@@ -69,7 +69,7 @@ pub fn statement<S: Store<L>, L: Ledger>(
     // What is refused before any call is reported as just that; and so are the definitions
     // behind each report fixed.
     ensures number { IfOk result (λ p. p.1.number ≡ number) }
-    ensures unread { IfOk result (λ p. IfErr (action_of planned piece.now) (λ why. p.1 ≡ unread_report number why)) }
+    ensures unread { IfOk result (λ p. IsUnread number (action_of planned piece.now) p.1) }
     ensures next { IfOk result (λ p. p.0 ≡ schema_after planned piece.now p.1) }
     // What a PREPARE defines is its query, arranged: without LIMIT and PAGINATE it answers the same rows as the
     // query as it is written.
@@ -82,14 +82,17 @@ pub fn statement<S: Store<L>, L: Ledger>(
     // Damage leaves the content as it was; but an index that was being made is left as it is, with its mark.
     ensures kept { IfErr result (KeepsDamaged planned (action_of planned piece.now) (S.content store.old)
         (S.content store.new)) }
-    // Damage is told with what shows it in the content that was there, and in what is there now.
+    // Damage is told with what shows it in the content that was there, and in what is there now; by a batch with the
+    // changes of the writes before the one at hand.
     ensures shown { IfErr result (λ broke. IfSome (S.content store.old)
-        (λ content. TellsEvidence planned content broke)) }
+        (λ content. TellsEvidenceFor (action_of planned piece.now) planned content broke)) }
     ensures lasting { IfErr result (λ broke. IfSome (S.content store.new)
-        (λ content. TellsEvidence planned content broke)) }
+        (λ content. TellsEvidenceFor (action_of planned piece.now) planned content broke)) }
     ensures cause { HasBrokeCause (S.faults store.old) (S.faults store.new) result }
-    // Damage is told of what a call answered; or, where an index is made, of its definition's key alone.
-    ensures answered { IfErr result (IsAnsweredBut S.answers (next_key planned)) }
+    // Damage is told of what a call answered, in a batch behind the changes of the writes before; or, where an index
+    // is made, of its definition's key alone.
+    ensures answered { IfErr result (IsAnsweredBut (AnswersFor (action_of planned piece.now) S.answers)
+        (next_key planned)) }
 {
     planned.known();
     make_piece(alloc, planned, number, piece, store, meter)
@@ -107,7 +110,8 @@ fn make_piece<S: Store<L>, L: Ledger>(
     ensures step { Promises number (action_of planned piece.now) (S.content store.old) (S.content store.new) planned
         meter.old meter.new result }
     ensures cause { HasBrokeCause (S.faults store.old) (S.faults store.new) result }
-    ensures answered { IfErr result (IsAnsweredBut S.answers (next_key planned)) }
+    ensures answered { IfErr result (IsAnsweredBut (AnswersFor (action_of planned piece.now) S.answers)
+        (next_key planned)) }
 {
     match request_of(alloc, &planned, piece) {
         Err(Stopped::NoMem) => Err(Broke::NoMem),
@@ -129,12 +133,17 @@ fn act<S: Store<L>, L: Ledger>(
     ensures step { (asked : Result Action Refusal) → Asks planned request asked
         → Promises number asked (S.content store.old) (S.content store.new) planned meter.old meter.new result }
     ensures cause { HasBrokeCause (S.faults store.old) (S.faults store.new) result }
-    ensures answered { IfErr result (IsAnsweredBut S.answers (next_key planned)) }
+    ensures answered { (asked : Result Action Refusal) → Asks planned request asked
+        → IfErr result (IsAnsweredBut (AnswersFor asked S.answers) (next_key planned)) }
 {
     match request {
         Request::Create(def) => create(alloc, planned, number, def, store, meter),
         Request::Alter(def) => add_column(alloc, planned, number, def, store, meter),
         Request::Write(write) => make_write(alloc, planned, number, &write, store, meter),
+        Request::Batch(writes) => make_batch(alloc, planned, number, &writes, store, meter),
+        Request::Misread { place, cause } => {
+            Ok((planned, misread_report(alloc, number, place, cause)))
+        }
         Request::Prepare(plan) => define_query(alloc, planned, number, plan, store, meter),
         Request::Explain(plan) => {
             let report = plan_report(alloc, &planned, number, &plan)?;

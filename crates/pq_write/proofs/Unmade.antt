@@ -1,5 +1,5 @@
--- A write for which memory was wanting: nothing of it is made, or its intent stands.
-use Rattle.std.proofs.Common.{◌≡◌, ℕ, zero, suc, ◌+◌, ◌≤◌, ◌==◌, Bool, true, false, cond, List, [], ◌∷◌, ◌++◌, length, map, take, Option, Some, None, Ok, refl, ap, ◌∙◌, subst, arith, inl, inr, ◌⊎◌}
+-- Changes for which memory was wanting: none of them is made, or their intent stands.
+use Rattle.std.proofs.Common.{◌≡◌, ℕ, zero, suc, ◌+◌, ◌≤◌, ◌==◌, Bool, true, false, cond, List, [], ◌∷◌, ◌++◌, length, map, take, Option, Some, None, refl, ap, ◌∙◌, subst, arith, inl, inr, ◌⊎◌}
 use Rattle.std.proofs.lemmas.List.{length-map, take-append-le}
 use Rattle.std.specs.Cmp.Lexicographic.{nat_list_cmp_total}
 use Rattle.std.specs.FinMap.{get, insert, get-insert}
@@ -17,9 +17,6 @@ use Rattle.pq_store.specs.declared.damage.Broke.TheVariants as broke
 use Rattle.pq_intent.specs.Changing.{content_after, WantsMemory, intent_writes}
 use Rattle.pq_intent.specs.Settling.{IsSettled, HasIntent}
 use Rattle.pq_intent.proofs.Steps.{after_none}
-use Rattle.pq_index_keep.specs.declared.write.Write.{Write}
-use Rattle.pq_statement.specs.Actions.{Writes}
-use Rattle.pq_reports.specs.Promise.{LacksMemory}
 
 intended_front : (n : ℕ) (changes : List Change) → AreIntended changes → AreIntended (take n changes)
 intended_front zero changes all = tt
@@ -57,11 +54,9 @@ unmade cs before after pairs old new told intended few (inr p) = by p.made p.cou
       found = intent_stands cs n (changes_code cs) pairs intended (before_last (length cs) n (omega (arith, few, counted)));
     })
 
--- so a write that was made doesn't end for want of memory
-pub write_lacks : (write : Write) (cs : List Coded) (error : Broke) (old mid now : Option Content) (between after : Counts) → mid ≡ old → (pairs : Content) → IsSettled mid pairs
+-- so what was made doesn't end for want of memory
+pub wants_unmade : (cs : List Coded) (error : Broke) (old mid now : Option Content) (between after : Counts) → mid ≡ old → (pairs : Content) → IsSettled mid pairs
     → (error ≡ broke.NoMem → (pairs : Content) → IsSettled mid pairs → WantsMemory (intent_writes cs) between after mid now) → AreIntended (map change_of cs)
-    → after.ops ≤ between.ops + write_ops (length cs) → LacksMemory (Ok (Writes write)) old now error
-write_lacks write cs broke.Failed old mid now between after same pairs s wants intended few = tt
-write_lacks write cs (broke.Damaged damage) old mid now between after same pairs s wants intended few = tt
-write_lacks write cs broke.NoMem old mid now between after same pairs s wants intended few =
-    subst (λ (o : Option Content). (now ≡ o) ⊎ HasIntent now) same (unmade cs between after pairs mid now s.told intended few (wants refl pairs s))
+    → after.ops ≤ between.ops + write_ops (length cs) → error ≡ broke.NoMem → (now ≡ old) ⊎ HasIntent now
+wants_unmade cs error old mid now between after same pairs s wants intended few lacks =
+    subst (λ (o : Option Content). (now ≡ o) ⊎ HasIntent now) same (unmade cs between after pairs mid now s.told intended few (wants lacks pairs s))

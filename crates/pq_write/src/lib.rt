@@ -1,8 +1,10 @@
-//! INSERT, UPDATE and DELETE over a store, and READ of a counter.
+//! INSERT, UPDATE and DELETE over a store, alone or in a BATCH, and READ of a counter.
 #![tactic(auto)]
 
+mod batch;
 mod read;
 mod write;
 
+pub use batch::make_batch;
 pub use read::read_count;
 pub use write::make_write;

@@ -38,12 +38,15 @@ returns-clause-told c =
         | inr r ↦ elim r [
           | inl i ↦ subst IsOther (sym i.1) tt
           | inr r ↦ elim r [
-            | inl i ↦ subst IsOther (sym i.3) tt
+            | inl i ↦ subst IsOther (sym i.1) tt
             | inr r ↦ elim r [
-              | inl i ↦ subst IsOther (sym i.1) tt
+              | inl i ↦ subst IsOther (sym i.3) tt
               | inr r ↦ elim r [
-                | inl i ↦ subst IsOther (sym i.2) tt
-                | inr i ↦ subst IsOther (sym i) tt
+                | inl i ↦ subst IsOther (sym i.1) tt
+                | inr r ↦ elim r [
+                  | inl i ↦ subst IsOther (sym i.2) tt
+                  | inr i ↦ subst IsOther (sym i) tt
+                ]
               ]
             ]
           ]

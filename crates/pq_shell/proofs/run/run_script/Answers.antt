@@ -7,7 +7,7 @@ use Rattle.pq_shell.proofs.run.run_script.Goals as goal
 pub returns-in_err-begun-clause-err : goal.returns-in_err-begun-clause-err
 returns-in_err-begun-clause-err g c =
     let p = err_from_is_err_and c.from_residual.result c.from_residual.ensures.1 in
-    rw (p.1, p.2) (Stopped-opening c.args.form _ _ _ _ c.in_err-begun.ensures.err.0 c.in_err-begun.ensures.err.1)
+    rw (p.1, p.2) (Stopped-opening c.args.form _ _ _ _ c.in_err-begun.ensures.err.0 c.in_err-begun.ensures.err.1 c.in_err-begun.ensures.answered)
 
 pub returns-in_err-ending-clause-err : goal.returns-in_err-ending-clause-err
 returns-in_err-ending-clause-err g c =

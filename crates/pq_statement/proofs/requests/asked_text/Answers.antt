@@ -1,5 +1,6 @@
 use Rattle.std.proofs.Common.{◌<◌, ◌≤◌, length}
 use Rattle.std.proofs.lemmas.Result.{err_from_is_err_and}
+use Rattle.pq_statement.proofs.Batches.{some_writes}
 use Rattle.pq_statement.proofs.Statements.{too_long, asked_read, stopped_reading}
 use Rattle.pq_planning.proofs.Names.{named_statement}
 use Rattle.pq_statement.proofs.requests.asked_text.Goals as goal
@@ -18,6 +19,9 @@ returns-in_err-statement-clause-refused c =
 
 pub asked_by-requires-clause-named : goal.asked_by-requires-clause-named
 asked_by-requires-clause-named c = named_statement c.args.text.now c.in_ok-found.found c.in_ok-statement.statement c.in_ok-found.ensures.found c.in_ok-statement.ensures.reads
+
+pub asked_by-requires-clause-some : goal.asked_by-requires-clause-some
+asked_by-requires-clause-some c = some_writes c.in_ok-statement.statement _ c.in_ok-statement.ensures.found
 
 pub returns-clause-asks : goal.returns-clause-asks
 returns-clause-asks c =

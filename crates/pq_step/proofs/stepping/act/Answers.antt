@@ -4,7 +4,8 @@ use Rattle.pq_statement.specs.Actions.{Runs, action_from}
 use Rattle.pq_statement.specs.Requests.{Asks}
 use Rattle.pq_statement.specs.declared.requests.Request.{Request}
 use Rattle.pq_reports.proofs.Planned.{explained_lines}
-use Rattle.pq_reports.proofs.Promises.{broken_same, explained_done, shown_done}
+use Rattle.pq_reports.proofs.Promises.{broken_same, explained_done, misread_done, shown_done}
+use Rattle.pq_step.proofs.Answering.{answered_but, answered_for, batch_answered}
 use Rattle.pq_step.proofs.stepping.act.Goals as goal
 
 pub create-requires : goal.create-requires
@@ -103,3 +104,45 @@ pub returns-in-Select-clause-step : goal.returns-in-Select-clause-step
 returns-in-Select-clause-step g c asked asks =
     let a = subst (λ (r : Request). Asks c.args.planned r asked) c.in-Select.is asks in
     c.select_query.ensures.step asked a.2
+
+pub returns-in-Create-clause-answered : goal.returns-in-Create-clause-answered
+returns-in-Create-clause-answered g c asked asks = answered_for g.S.Store.answers asked _ c.create.result c.create.ensures.answered
+
+pub returns-in-Alter-clause-answered : goal.returns-in-Alter-clause-answered
+returns-in-Alter-clause-answered g c asked asks = answered_for g.S.Store.answers asked _ c.add_column.result c.add_column.ensures.answered
+
+pub returns-in-Write-clause-answered : goal.returns-in-Write-clause-answered
+returns-in-Write-clause-answered g c asked asks = answered_for g.S.Store.answers asked _ c.make_write.result c.make_write.ensures.answered
+
+pub returns-in-Prepare-clause-answered : goal.returns-in-Prepare-clause-answered
+returns-in-Prepare-clause-answered g c asked asks = answered_but g.S.Store.answers asked _ c.define_query.result c.define_query.ensures.answered
+
+pub returns-in-Run-clause-answered : goal.returns-in-Run-clause-answered
+returns-in-Run-clause-answered g c asked asks = answered_for g.S.Store.answers asked _ c.run_query.result c.run_query.ensures.answered
+
+pub returns-in-Count-clause-answered : goal.returns-in-Count-clause-answered
+returns-in-Count-clause-answered g c asked asks = answered_for g.S.Store.answers asked _ c.create_counter.result c.create_counter.ensures.answered
+
+pub returns-in-Read-clause-answered : goal.returns-in-Read-clause-answered
+returns-in-Read-clause-answered g c asked asks = answered_for g.S.Store.answers asked _ c.read_count.result c.read_count.ensures.answered
+
+pub returns-in-Select-clause-answered : goal.returns-in-Select-clause-answered
+returns-in-Select-clause-answered g c asked asks = answered_for g.S.Store.answers asked _ c.select_query.result c.select_query.ensures.answered
+
+pub make_batch-requires : goal.make_batch-requires
+make_batch-requires g c = (subst (λ (r : Request). Asks c.args.planned r c.requires.0) c.in-Batch.is c.requires.1).0
+
+pub returns-in-Batch-clause-step : goal.returns-in-Batch-clause-step
+returns-in-Batch-clause-step g c asked asks =
+    let a = subst (λ (r : Request). Asks c.args.planned r asked) c.in-Batch.is asks in
+    rw a.1 c.make_batch.ensures.step
+
+pub returns-in-Batch-clause-answered : goal.returns-in-Batch-clause-answered
+returns-in-Batch-clause-answered g c asked asks =
+    let a = subst (λ (r : Request). Asks c.args.planned r asked) c.in-Batch.is asks in
+    batch_answered g.S.Store.answers asked c.in-Batch.writes _ a.1 c.make_batch.result c.make_batch.ensures.answered
+
+pub returns-in-Misread-clause-step : goal.returns-in-Misread-clause-step
+returns-in-Misread-clause-step g c asked asks =
+    let a = subst (λ (r : Request). Asks c.args.planned r asked) c.in-Misread.is asks in
+    rw (a, c.misread_report.ensures) (misread_done c.args.number c.in-Misread.place c.in-Misread.cause _ c.args.planned _)
