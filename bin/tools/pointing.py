@@ -4,6 +4,7 @@ from collections.abc import Callable, Sequence
 
 from piql.conditions import Tokens, after, begin_of, conditions_of
 from piql.scripts import Token
+from piql.writes import IN_BATCH, WRITES, write_of
 
 Fields = tuple[str, ...]
 # Behind these a list begins in which a column may stand once.
@@ -167,6 +168,8 @@ def count(found: Tokens, fields: Fields) -> Token | None:
         return found[ADDED]
     if word == "limit_columns":
         return too_many_in_list(found)
+    if word == "writes":
+        return next(iter(write_of(found, WRITES + 1)), None)
     if word == "predicates" and found[0].is_word("UPDATE", "DELETE"):
         return found[begin_of(found) - 1]
     if word in ("limits", "foreign"):
@@ -207,6 +210,9 @@ FINDERS: dict[str, Callable[[Tokens, Fields], Token | None]] = {
 
 def pointed(code: str, fields: Fields, found: Tokens, columns: Sequence[str]) -> Token | None:
     """The token that a refusal speaks of. The columns are those of the table that it names."""
+    if code == IN_BATCH:
+        write = write_of(found, int(fields[0]))
+        return (pointed(fields[1], fields[2:], write, columns) or write[0]) if write else None
     if code == "E501":
         return misfit(found, fields, columns)
     finder = FINDERS.get(code)

@@ -10,6 +10,7 @@ from piql.refusals import refusal_of
 from piql.reports import DamageLine, DefinitionLine, IndexLine, OpeningLine, QueryLine, Report, read_reports
 from piql.scripts import Piece, Token, character_at, pieces, place_at, tokens
 from piql.tables import table
+from piql.writes import IN_BATCH, write_of
 from tools.kept import NotBuilt
 from tools.launch import tell, written, written_of
 from tools.pointing import pointed
@@ -54,6 +55,14 @@ def bad_byte(piece: bytes) -> int:
     return 0
 
 
+def own_refusal(fields: tuple[str, ...], found: list[Token], text: str) -> tuple[tuple[str, ...], str]:
+    """A refusal and the text that it is of: of a batch those of the write that is refused."""
+    if fields[0] != IN_BATCH:
+        return fields, text
+    write = write_of(found, int(fields[1]))
+    return fields[2:], text[write[0].start : write[-1].start] if write else text
+
+
 def place_in(piece: bytes, fields: tuple[str, ...], found: list[Token], shapes: Shapes) -> int:
     """The byte of a piece at which the cause of a refusal stands. The first token's where nothing tells more."""
     code, values = fields[0], fields[1:]
@@ -65,7 +74,8 @@ def place_in(piece: bytes, fields: tuple[str, ...], found: list[Token], shapes: 
     if code == "E102":
         token, is_open = found[-1], found[-1].kind == "other"
         return len(text[: token.start if is_open else token.end].encode())
-    columns = shapes.columns_of(values[0]) if code == "E501" else []
+    own, _ = own_refusal(fields, found, text)
+    columns = shapes.columns_of(own[1]) if own[0] == "E501" else []
     token = pointed(code, values, found, columns) or found[0]
     return len(text[: token.start].encode())
 
@@ -97,11 +107,13 @@ def tell_refusal(script: Script, report: Report, shapes: Shapes) -> None:
     within = place_in(piece, fields, found, shapes)
     at = script.pieces[number].start + within
     line = script.data.count(b"\n", 0, at) + 1
-    refusal = refusal_of(fields, text, place_at(text, character_at(piece, within)) if fields[0] == "E104" else None)
+    own, part = own_refusal(fields, found, text)
+    refusal = refusal_of(own, part, place_at(text, character_at(piece, within)) if own[0] == "E104" else None)
     print(f"{script.name}:{line}: statement {number} is refused: {' '.join(fields)}")
     print(*show_line(script, at), sep="\n")
-    cause = refusal.headline if fields[0] in BY_CASES else refusal.cause
-    print(*wrapped(cause), *wrapped(refusal.way_out, "way out: "), "", sep="\n")
+    cause = refusal.headline if own[0] in BY_CASES else refusal.cause
+    head = f"write {fields[1]} of the batch: " if fields[0] == IN_BATCH else ""
+    print(*wrapped(cause, head), *wrapped(refusal.way_out, "way out: "), "", sep="\n")
 
 
 def names_of(report: Report, known: list[str]) -> list[str]:

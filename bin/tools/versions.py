@@ -1,6 +1,6 @@
 """The version: the numbers of the language, of the file format and of the driver."""
 
-LANGUAGE = 6
+LANGUAGE = 7
 FILE_FORMAT = 4
 DRIVER = 3
 

@@ -1,4 +1,4 @@
-"""A board of links: python3 board.py FILE page [CURSOR] | front | vote LINK VOTER | buy LINK PRICE | serve"""
+"""A board of links: python3 board.py FILE page [CURSOR] | front | vote LINK VOTER | buy LINK BUYER PRICE | serve"""
 
 import html
 import sys
@@ -12,30 +12,32 @@ TRIES = 50
 
 
 def vote(board, link, voter):
-    """Votes for a link, and gives its new score; None where the voter has voted for it already."""
+    """Votes for a link, and gives the vote's number; None where the voter has voted for it already."""
     for _ in range(TRIES):
         last = board.execute("RUN last_vote (?)", (link,)).fetchone()
         number = last[0] + 1 if last else 1
         try:
-            board.execute("INSERT INTO votes VALUES (?, ?, ?)", (link, number, voter))
+            with board.batch() as both:
+                both.execute("INSERT INTO votes VALUES (?, ?, ?)", (link, number, voter))
+                both.execute("UPDATE links SET score ADD 1 WHERE id = ?", (link,))
+            return number
         except piql.IntegrityError as error:
-            if error.number == "E503":  # another vote got this number
-                continue
             if error.number == "E507":  # the limit: one vote for each link and voter
                 return None
-            raise
-        board.execute("UPDATE links SET score = ? WHERE id = ?", (number, link))
-        return number
+            if error.number != "E503":  # another vote got this number
+                raise
     raise piql.OperationalError("too many votes at once")
 
 
-def buy(board, link, price):
+def buy(board, link, buyer, price):
     """Sells a print of a link at the price that the buyer has seen; whether there was one."""
-    change = "UPDATE prints SET stock ADD -1, sold ADD 1 WHERE link = ? IF stock > 0 AND price = ?"
     try:
-        return board.execute(change, (link, price)).rowcount == 1
+        with board.batch() as purchase:
+            purchase.execute("INSERT INTO sales VALUES (?, ?, ?)", (link, buyer, price))
+            purchase.execute("UPDATE prints SET stock ADD -1 WHERE link = ? IF stock > 0 AND price = ?", (link, price))
     except piql.Changed:  # none is left, or the price is another by now
         return False
+    return True
 
 
 def page(board, cursor=None):
@@ -77,7 +79,7 @@ def main(file, command, *words):
         elif command == "vote":
             print(vote(board, int(words[0]), words[1]))
         elif command == "buy":
-            print(buy(board, *map(int, words)))
+            print(buy(board, int(words[0]), words[1], int(words[2])))
         elif command == "serve":
             make_server("localhost", 8000, application(board)).serve_forever()
 

@@ -17,9 +17,9 @@ from tools.tests.copies import Copy, built
 
 PIQL, PIQL_FILE = built("piql"), built("piql_file")
 PLACES = [str(pathlib.Path(sys.executable).parent), "/usr/bin", "/bin"]
-WHOLE = re.compile(r"(CREATE|ALTER|INSERT|UPDATE|DELETE|PREPARE|RUN|READ|EXPLAIN|SHOW|SELECT)\b")
+WHOLE = re.compile(r"(CREATE|ALTER|INSERT|UPDATE|DELETE|BATCH|PREPARE|RUN|READ|EXPLAIN|SHOW|SELECT)\b")
 STATEMENT = re.compile(WHOLE.pattern + r"|(DROP|TRUNCATE|COPY|BEGIN)\b")
-SOFT_WORDS = {"ADD", "ALTER", "COLUMN", "COUNTER", "DEFAULT", "IF", "IS", "NULL", "OF", "READ"}
+SOFT_WORDS = {"ADD", "ALTER", "BATCH", "COLUMN", "COUNTER", "DEFAULT", "IF", "IS", "NULL", "OF", "READ"}
 CODE = re.compile(r"`([^`]*)`")
 TOOLCHAIN = re.compile(r"`(rattle-kit-\w+ logic [0-9a-f]+)`")
 # Of a paragraph, and of the first page.

@@ -20,6 +20,11 @@ UPDATE = "UPDATE t SET b = 'x', b = 'y' WHERE a = 7;"
 CHANGE = "UPDATE t SET a ADD 5, b ADD -1 WHERE if = 7 AND c = 8 IF b >= 9 AND a IS NULL AND c = 'x';"
 REMOVE = "DELETE FROM t WHERE if = 7 IF if <> 7;"
 SELECT = "SELECT t.a, b FROM t WHERE a = [1] AND b = 'x' LIMIT 5;"
+BATCH = (
+    "BATCH INSERT INTO t VALUES (7, 'x'), UPDATE t SET b = 1, a = 2 WHERE c = 3 IF b = 4 AND a > 5,"
+    " DELETE FROM w WHERE c = 6;"
+)
+MANY = "BATCH " + ", ".join(f"DELETE FROM t WHERE a = {i}" for i in range(257)) + ";"
 # A statement, its refusal, and the place of the token, as what stands before it and the token.
 CASES = [
     (TABLE, "E201 t", "CREATE TABLE |t"),
@@ -83,6 +88,13 @@ CASES = [
     (READ, "E402 0", "READ |read"),
     (READ, "E402 2", "7, |'x'"),
     (READ, "E405 read", "READ |read"),
+    (BATCH, "E513 1 E503 t", "INTO |t"),
+    (BATCH, "E513 1 E501 t b", "7, |'x'"),
+    (BATCH, "E513 2 E511 t 2", "4 AND |a"),
+    (BATCH, "E513 2 E501 t a", "a = |2"),
+    (BATCH, "E513 3 E202 w", "FROM |w"),
+    (BATCH, "E513 3 E506 s 1", "5, |DELETE"),
+    (MANY, "E206 writes", "a = 255, |DELETE"),
 ]
 
 

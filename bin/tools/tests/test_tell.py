@@ -153,6 +153,15 @@ class ReportTest(unittest.TestCase):
         self.assertEqual(run.stdout, TOLD.replace("NAME", str(self.script)))
         self.assertEqual((run.returncode, run.stderr), (1, ""))
 
+    def test_the_write_of_a_batch_is_told(self) -> None:
+        self.script.write_text("BATCH DELETE FROM t WHERE a = 1, INSERT INTO t VALUES (1, 'x');\n")
+        self.report.write_text("1 refused E513 2 E502 t bound 0 0 used 0 0\n")
+        told = run_tell("--report", self.report, self.script).stdout.splitlines()
+        self.assertEqual(told[0], f"{self.script}:1: statement 1 is refused: E513 2 E502 t")
+        self.assertEqual(told[2].index("^"), told[1].rindex("t VALUES"))
+        self.assertTrue(told[3].startswith("  write 2 of the batch: the wrong columns."))
+        self.assertIn("way out: each column of the table with a value", told[4])
+
     def test_damage_is_told(self) -> None:
         self.report.write_text("damaged 0102ff\n")
         run = run_tell("--report", self.report, self.script)
