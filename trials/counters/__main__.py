@@ -5,7 +5,7 @@
     python3 trials/counters --engine PROGRAM      another build of piql_host
 
 Each write is an INSERT, an UPDATE or a DELETE on one of two tables, with keys that are there or not, and values that
-may be NULL. It is made once over a copy of the store, which has to report what the rules say, and tells how many calls
+may be NULL, or a batch of up to six of them. It is made once over a copy of the store, which has to report what the rules say, and tells how many calls
 it makes. Then it is made over the store, where one of these calls, drawn at random, fails: it is made or it isn't. The
 run has to end with status 5 at this call.
 
@@ -32,8 +32,8 @@ from piql.hosts import MemoryStore  # noqa: E402
 from piql.reports import OpeningLine, Report, read_reports  # noqa: E402
 from piql.values import quoted  # noqa: E402
 from stopping import Ran, Stop, copy_of, ran  # noqa: E402
-from tables import COLUMNS, DEFINITIONS, KEYS, LIKES, PEOPLE, Rows, Write  # noqa: E402
-from tables import drawn, groups, made, no_rows, number_of, refusal_of  # noqa: E402
+from tables import COLUMNS, DEFINITIONS, KEYS, LIKES, PEOPLE, Batch, Rows, Statement  # noqa: E402
+from tables import drawn_statement, groups, made_by, no_rows, number_of, refused_as  # noqa: E402
 
 BUILD = TOP / "crates/piql_host/out/piql_host"
 STORE_FAULT = 5
@@ -66,12 +66,12 @@ def read(run: Ran) -> Told:
     return Told(opening.used.operations, [report for report in reports if isinstance(report, Report)])
 
 
-def check_whole(run: Ran, write: Write, refusal: str | None) -> None:
+def check_whole(run: Ran, write: Statement, refusal: tuple[str, ...]) -> None:
     """A run of the write to its end: its report is that of the rules, and it uses what was asked of the store."""
     told = read(run)
     expect(run.status == (1 if refusal else 0) and len(told.reports) == 1, f"{write.text()}: {run}")
     end = told.reports[0].end
-    expect((end.refusal or (None,))[0] == refusal, f"{write.text()}: {end.refusal}, and not {refusal}")
+    expect(end.refusal[: max(len(refusal), 1)] == refusal, f"{write.text()}: {end.refusal}, and not {refusal}")
     expect(end.used <= end.bound and end.used.entries <= end.bound.entries, f"{write.text()}: {end}")
     expect(told.opening + end.used.operations == run.calls, f"{write.text()}: {run.calls} calls, and not {end.used}")
 
@@ -104,9 +104,9 @@ class Trial:
 
     def step(self) -> None:
         """Stops one write."""
-        write = drawn(self.chance, self.rows)
-        refusal = refusal_of(self.rows, write)
-        behind = self.rows if refusal else made(self.rows, write)
+        write = drawn_statement(self.chance, self.rows)
+        refusal = refused_as(self.rows, write)
+        behind = self.rows if refusal else made_by(self.rows, write)
         whole = ran(self.engine, copy_of(self.store), write.text())
         check_whole(whole, write, refusal)
         stop = Stop(self.chance.randint(1, whole.calls), self.chance.random() < 0.5)
@@ -117,6 +117,7 @@ class Trial:
         opening = check_store(self.engine, self.store, self.rows, what)
         self.figures["refused" if refusal else "made" if run.writes else "not made"] += 1
         self.figures["made whole by the opening"] += opening > QUIET
+        self.figures["batches"] += isinstance(write, Batch)
 
     def tell(self) -> str:
         parts = [f"{number} {what}" for what, number in sorted(self.figures.items())]

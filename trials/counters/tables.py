@@ -87,6 +87,21 @@ class Write(NamedTuple):
         return f"UPDATE {self.table} SET {sets} WHERE {where};"
 
 
+class Batch(NamedTuple):
+    """Writes that are made as one."""
+
+    writes: tuple[Write, ...]
+
+    def text(self) -> str:
+        """The statement."""
+        return f"BATCH {', '.join(write.text().removesuffix(';') for write in self.writes)};"
+
+
+Statement = Write | Batch
+# How many writes a batch has at most, and how often one is drawn.
+WRITES, BATCHES = 6, 0.4
+
+
 def no_rows() -> Rows:
     return {PEOPLE: {}, LIKES: {}}
 
@@ -104,6 +119,17 @@ def drawn(chance: random.Random, rows: Rows) -> Write:
         return Write(table, key)
     places = sorted(chance.sample(range(size, len(columns)), chance.randint(1, len(columns) - size)))
     return Write(table, key, None, tuple((columns[place], row[place]) for place in places))
+
+
+def drawn_statement(chance: random.Random, rows: Rows) -> Statement:
+    """A write, or a batch of which each write is drawn from the rows of those before it, as far as they are made."""
+    if chance.random() >= BATCHES:
+        return drawn(chance, rows)
+    writes: list[Write] = []
+    for _ in range(chance.randint(1, WRITES)):
+        writes.append(drawn(chance, rows))
+        rows = rows if refusal_of(rows, writes[-1]) else made(rows, writes[-1])
+    return Batch(tuple(writes))
 
 
 def without(rows: Rows, table: str, key: Row) -> Rows:
@@ -138,6 +164,25 @@ def made(rows: Rows, write: Write) -> Rows:
         return without(rows, write.table, write.key)
     given = dict(zip(COLUMNS[write.table], rows[write.table][write.key])) | dict(write.sets)
     return with_row(rows, write.table, write.key, tuple(given[column] for column in COLUMNS[write.table]))
+
+
+def refused_as(rows: Rows, statement: Statement) -> tuple[str, ...]:
+    """What a statement is refused for, as its report begins: of a batch its first write that is refused."""
+    if isinstance(statement, Write):
+        code = refusal_of(rows, statement)
+        return (code,) if code else ()
+    for place, write in enumerate(statement.writes, 1):
+        if code := refusal_of(rows, write):
+            return ("E513", str(place), code)
+        rows = made(rows, write)
+    return ()
+
+
+def made_by(rows: Rows, statement: Statement) -> Rows:
+    """The rows behind a statement that isn't refused."""
+    for write in statement.writes if isinstance(statement, Batch) else (statement,):
+        rows = made(rows, write)
+    return rows
 
 
 def groups() -> Iterator[Group]:

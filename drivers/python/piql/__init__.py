@@ -8,10 +8,12 @@
 
 import os
 
+from .batch import Batch
 from .bounds import BoundsRose, check_bounds, read_bounds, write_bounds
 from .connection import Connection
 from .cursor import ColumnDescription, Cursor
 from .errors import (
+    BatchFull,
     Changed,
     DatabaseError,
     DataError,
@@ -105,6 +107,8 @@ def connect(
 
 __all__ = [
     "BINARY",
+    "Batch",
+    "BatchFull",
     "Binary",
     "BoundsRose",
     "Changed",

@@ -23,8 +23,10 @@ from .selected import columns_of
 from .statements import Kind, Sent, Statement, prepare_of, read_statement
 from .unprepared import NO_PAGES, UNPREPARED, explain_of, is_no_statement, wanted_index, with_values
 from .values import quoted, quoted_text
+from .writes import IN_BATCH, write_at
 
 if TYPE_CHECKING:
+    from .batch import Batch
     from .cursor import Cursor
     from .pipeline import Pipeline
 
@@ -205,11 +207,19 @@ class Connection:
         if is_no_statement(fields, sent.statement):
             self._selects = False
             return ProgrammingError(UNPREPARED.format(text=text))
+        if fields[0] == IN_BATCH:
+            return self.refused_write(text, int(fields[1]), fields[2:])
         if fields[0] != "E104":
             detail = self.wanted(sent.statement, fields[1]) if fields[0] == "E406" else self.detail(fields, text)
             return refused(with_causes(refusal_of(fields, text)._replace(**detail._asdict())))
         at = sent.source_at(int(fields[1]))
         return refused(refusal_of(("E104", str(len(text[:at].encode()))), text, place_at(text, at)))
+
+    def refused_write(self, text: str, number: int, fields: tuple[str, ...]) -> errors.DatabaseError:
+        """The exception of the refused write of a batch: that of its own refusal, with its number in the batch."""
+        write = write_at(text, number)
+        refusal = refusal_of(fields, write)._replace(**self.detail(fields, write)._asdict())
+        return refused(refusal._replace(statement=text, number_in_batch=number, write=write))
 
     def detail(self, fields: tuple[str, ...], text: str) -> Detail:
         """What the definitions tell of a refusal. Where they can't be read, the refusal is told without."""
@@ -367,6 +377,13 @@ class Connection:
 
         self.link()
         return Pipeline(self, None if timeout is None else plain_seconds(timeout, "timeout"), raises)
+
+    def batch(self, *, timeout: float | None = None) -> "Batch":
+        """Several writes that are made as one, at the end of its `with` block or by its `make`: all of them, or none."""
+        from .batch import Batch
+
+        self.link()
+        return Batch(self, None if timeout is None else plain_seconds(timeout, "timeout"))
 
     def commit(self) -> None:
         """Does nothing: each statement that was reported stands."""

@@ -129,7 +129,7 @@ class Cursor:
         self._statement = statement
         self._rows = rows_of(statement.kind, report)
         if statement.kind.writes:
-            self._made = int(not report.is_refused())
+            self._made = 0 if report.is_refused() else statement.rows
         return self
 
     def executemany(self, operation: str, seq_of_parameters: Iterable["Parameters"]) -> "Cursor":
@@ -142,7 +142,7 @@ class Cursor:
         self._made = 0
         for parameters in plain_rows(seq_of_parameters):
             self._report = report = connection.answer(statement, parameters)
-            self._made += not report.is_refused()
+            self._made += 0 if report.is_refused() else statement.rows
         return self
 
     def executescript(self, script: str) -> "Cursor":

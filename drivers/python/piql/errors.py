@@ -3,6 +3,7 @@
 from .refusals import Refusal
 from .scripts import Place
 from .statuses import MEANINGS
+from .writes import IN_BATCH
 
 
 class Warning(Exception):  # noqa: A001 - the name is the standard's
@@ -35,9 +36,14 @@ class Error(Exception):
         return self.refusal and self.refusal.statement
 
     @property
-    def place(self) -> Place | None:
-        """Line and column at which the statement spells nothing, from 1."""
-        return self.refusal and self.refusal.place
+    def place(self) -> Place | int | None:
+        """Line and column at which the statement spells nothing, or the number of the refused write of a batch; from 1."""
+        return self.refusal and (self.refusal.place or self.refusal.number_in_batch)
+
+    @property
+    def write(self) -> str | None:
+        """The refused write of a batch, as it was given."""
+        return self.refusal and self.refusal.write
 
     @property
     def table(self) -> str | None:
@@ -109,6 +115,10 @@ class PipelineFull(ProgrammingError):
     """A pipeline has no room for a statement more. Nothing of it was sent."""
 
 
+class BatchFull(ProgrammingError):
+    """A batch has no room for a write more. Nothing of it was sent."""
+
+
 class NotSupportedError(DatabaseError):
     """What isn't offered: rollback, and a query without a bound."""
 
@@ -130,6 +140,7 @@ CLASSES: dict[str, type[DatabaseError]] = {
     "E508": DataError,
     "E510": IntegrityError,
     "E511": Changed,
+    "E512": DataError,
     "E514": DataError,
 }
 
@@ -143,9 +154,14 @@ def class_of(refusal: Refusal) -> type[DatabaseError]:
     return CLASSES.get(refusal.number, ProgrammingError)
 
 
+def batch_head(refusal: Refusal) -> list[str]:
+    """What a report has before the refusal of one write of a batch."""
+    return [] if refusal.number_in_batch is None else [IN_BATCH, str(refusal.number_in_batch)]
+
+
 def refused(refusal: Refusal) -> DatabaseError:
     """The exception of a refusal."""
-    head = " ".join([refusal.number, *refusal.fields.values()])
+    head = " ".join([*batch_head(refusal), refusal.number, *refusal.fields.values()])
     place = f" at line {refusal.place.line}, column {refusal.place.column}" if refusal.place else ""
     detail = f" {refusal.detail}" if refusal.detail else ""
     way = f" Way out: {refusal.way_out}" if refusal.way_out else ""

@@ -20,6 +20,7 @@ from .plain import plain_path
 from .reports import Value
 from .schema import Column, Table
 from .values import GREATEST, LEAST
+from .writes import WRITES
 
 TRUTHS = {"true": True, "t": True, "1": True, "false": False, "f": False, "0": False}
 DECIMAL = re.compile(r"-?[0-9]+")
@@ -122,14 +123,40 @@ def columns_of(table: Table, head: Record) -> list[Column]:
     return [table.column(name) for name in names]
 
 
+class Taken(NamedTuple):
+    """A record that was read, the sum of all up to it, and its row, or why it has none."""
+
+    record: Record
+    total: int
+    row: list[Value] | None
+    why: str | None = None
+
+
+def lots_of(records: Iterator[Record]) -> Iterator[list[Record]]:
+    """The records by as many as a batch has writes. Where one can't be read, those before it come first."""
+    lot: list[Record] = []
+    try:
+        for record in records:
+            lot.append(record)
+            if len(lot) == WRITES:
+                yield lot
+                lot = []
+    except OperationalError:
+        yield lot
+        raise
+    yield lot
+
+
 class Load:
-    """A load of one table."""
+    """A load of one table. Rows are made by batches, each with one sync, and at most as many as were made before."""
 
     def __init__(self, connection: Connection, table: Table, mark: Mark, tell: TextIO, null: str) -> None:
         self.connection, self.table, self.mark, self.tell, self.null = connection, table, mark, tell, null
         self.first, self.told = mark.records + 1, time.monotonic()
         places = ", ".join("?" * len(table.columns))
         self.insert = f"INSERT INTO {table.name} VALUES ({places})"
+        # How many rows the next batch may have, and how many a load sent that was stopped before it was told of them.
+        self.most, self.greatest, self.sent = WRITES, WRITES, mark.sent
 
     def row(self, columns: list[Column], record: Record) -> list[Value]:
         """The record's values in the table's order."""
@@ -138,29 +165,90 @@ class Load:
         given = {it.name: value_of(it, cell, self.null) for it, cell in zip(columns, record.cells)}
         return [given.get(column.name, column.default) for column in self.table.columns]
 
-    def refusal(self, columns: list[Column], record: Record) -> str | None:
-        """Inserts a record's row; why not, or None. The first row behind a stop may have been made before it."""
+    def read(self, columns: list[Column], record: Record, total: int) -> Taken:
+        """A record with its row; the sum of all up to it."""
         try:
-            self.connection.execute(self.insert, self.row(columns, record))
+            return Taken(record, total, self.row(columns, record))
         except Unreadable as error:
-            return str(error)
+            return Taken(record, total, None, str(error))
+
+    def alone(self, row: list[Value]) -> DatabaseError | None:
+        """Makes one row by itself; why not, or None."""
+        try:
+            self.connection.execute(self.insert, row)
         except DatabaseError as error:
             if error.number is None and not isinstance(error, DataError):
                 raise
-            may_be_made = self.mark.is_resumed and record.number == self.first
-            return None if may_be_made and error.number == "E503" else str(error)
+            return error
         return None
 
-    def take(self, columns: list[Column], record: Record, total: int) -> None:
-        """Takes one record; the sum of all up to it."""
-        why = self.refusal(columns, record)
-        if why is not None:
+    def again(self, rows: list[list[Value]]) -> list[str | None]:
+        """Makes rows that were sent as one before a stop. Where each of them has its key already, all were made."""
+        errors = [self.alone(row) for row in rows]
+        are_made = all(error is not None and error.number == "E503" for error in errors)
+        return [None if are_made or error is None else str(error) for error in errors]
+
+    def together(self, rows: list[list[Value]]) -> list[str | None]:
+        """Makes the first rows as one; what became of them, or nothing where fewer are to be tried."""
+        batch = self.connection.batch()
+        for row in rows[: self.most]:
+            try:
+                batch.execute(self.insert, row)
+            except DatabaseError:
+                # It has no room here, or is refused once it is by itself.
+                break
+        self.mark.send(max(len(batch), 1))
+        if len(batch) < 2:
+            error = self.alone(rows[0])
+            self.most = self.most if error else min(2, self.greatest)
+            return [error and str(error)]
+        try:
+            batch.make()
+        except DatabaseError as error:
+            self.most = self.fewer(len(batch), error)
+            return []
+        self.most = min(2 * self.most, self.greatest)
+        return [None] * batch.rowcount
+
+    def fewer(self, rows: int, error: DatabaseError) -> int:
+        """How many rows may be made as one where so many were refused."""
+        if isinstance(error.place, int):
+            return max(error.place - 1, 1)
+        if error.number == "E512":
+            return rows // 2
+        if error.number != "E104":
+            raise error
+        # An engine whose language has no batches.
+        self.greatest = 1
+        return 1
+
+    def settle(self, lot: list[Taken]) -> None:
+        """Makes the rows of some records, and tells of those that are refused."""
+        while lot:
+            rows = [taken.row for taken in lot if taken.row is not None]
+            sent, self.sent = self.sent, 0
+            whys = self.again(rows[:sent]) if sent and rows else self.together(rows) if rows else []
+            if whys or not rows:
+                count = self.covered(lot, len(whys))
+                self.take(lot[:count], whys)
+                lot = lot[count:]
+
+    def covered(self, lot: list[Taken], rows: int) -> int:
+        """How many of the first records have so many rows; all of them where there are no more."""
+        places = [i for i, taken in enumerate(lot) if taken.row is not None]
+        return places[rows] if rows < len(places) else len(lot)
+
+    def take(self, lot: list[Taken], whys: list[str | None]) -> None:
+        """Records are done; why each of those with a row was refused, or None."""
+        found = iter(whys)
+        refused = [(it.record, why) for it in lot if (why := it.why if it.row is None else next(found)) is not None]
+        for record, why in refused:
             print(f"record {record.number}, line {record.line}: {why}", file=self.tell, flush=True)
-        self.mark.write(why is not None, total)
+        self.mark.take(len(lot), len(refused), lot[-1].total)
         self.progress()
 
     def progress(self, is_last: bool = False) -> None:
-        """Tells how far it is, once in a while."""
+        """Tells how far it is, once in a while. What is told is synced."""
         now = time.monotonic()
         if is_last or now - self.told > QUIET:
             self.told = now
@@ -171,12 +259,15 @@ class Load:
         columns = columns_of(self.table, next(records, Record(0, 1, [])))
         self.mark.begin()
         total = 0
-        for record in records:
-            total = zlib.crc32(record.data(), total)
-            if record.number >= self.first:
-                self.take(columns, record, total)
-            elif record.number == self.first - 1 and total != self.mark.sum:
-                raise ProgrammingError(f"{self.mark.path} was left by the load of another file; take it away first")
+        for records_read in lots_of(records):
+            lot: list[Taken] = []
+            for record in records_read:
+                total = zlib.crc32(record.data(), total)
+                if record.number >= self.first:
+                    lot.append(self.read(columns, record, total))
+                elif record.number == self.first - 1 and total != self.mark.sum:
+                    raise ProgrammingError(f"{self.mark.path} was left by the load of another file; take it away first")
+            self.settle(lot)
 
 
 def load(

@@ -10,7 +10,8 @@ from .errors import OperationalError
 from .hosts.passwords import SECRET, cut_user, cut_words
 from .hosts.urls import is_url, options_of
 
-CONTENT = re.compile(rb"([0-9]{20}) ([0-9]{20}) ([0-9]{10})\n")
+# The last number is missing in a mark of before, whose load sent one record at a time.
+CONTENT = re.compile(rb"([0-9]{20}) ([0-9]{20}) ([0-9]{10})(?: ([0-9]{3}))?\n")
 DIGITS = 16
 
 
@@ -30,26 +31,28 @@ def mark_path(store: str, table: str) -> str:
 
 
 class Mark:
-    """How many records were taken, how many of them refused, and a sum of all. It is written behind each record.
+    """How many records were taken, how many of them refused, a sum of all, and how many rows were sent behind them.
 
-    A mark that is there when it is read was left by a load that was stopped: the first record behind it may be made.
+    A mark that is there when it is read was left by a load that was stopped: the rows that were sent are all made, or
+    none is.
     """
 
     def __init__(self, path: Path) -> None:
         self.path = path
-        self.records, self.refused, self.sum = 0, 0, 0
+        self.records, self.refused, self.sum, self.sent = 0, 0, 0, 0
         self.file: int | None = None
         try:
             content = self.read()
         except OSError as error:
             raise OperationalError(f"{path} can't be read: {error.strerror}") from error
         self.is_resumed = content is not None
-        # A load that was stopped before its first record's end has left nothing in it.
+        # A load of before that was stopped before its first record's end has left nothing in it, and may have made one.
+        self.sent = int(self.is_resumed)
         if content:
             found = CONTENT.fullmatch(content)
             if found is None:
                 raise OperationalError(f"{path} is no mark of a load; take it away first, or name another by --mark")
-            self.records, self.refused, self.sum = map(int, found.groups())
+            self.records, self.refused, self.sum, self.sent = map(int, found.groups(b"1"))
 
     def read(self) -> bytes | None:
         """What stands in the file, or None where there is no file."""
@@ -69,12 +72,22 @@ class Mark:
         except OSError as error:
             raise OperationalError(f"{self.path} can't be written: {error.strerror}") from error
 
-    def write(self, is_refused: bool, total: int) -> None:
-        """One record more was taken; the sum of all of them."""
+    def send(self, rows: int) -> None:
+        """So many rows are about to be sent, as one batch."""
+        self.sent = rows
+        self.write()
+
+    def take(self, records: int, refused: int, total: int) -> None:
+        """So many records more were taken, and so many of them refused; the sum of all of them."""
+        self.records, self.refused, self.sum, self.sent = self.records + records, self.refused + refused, total, 0
+        self.write()
+
+    def write(self) -> None:
+        """Writes the numbers."""
         assert self.file is not None
-        self.records, self.refused, self.sum = self.records + 1, self.refused + is_refused, total
         try:
-            os.pwrite(self.file, f"{self.records:020} {self.refused:020} {self.sum:010}\n".encode(), 0)
+            text = f"{self.records:020} {self.refused:020} {self.sum:010} {self.sent:03}\n"
+            os.pwrite(self.file, text.encode(), 0)
         except OSError as error:
             raise OperationalError(f"{self.path} can't be written: {error.strerror}") from error
 

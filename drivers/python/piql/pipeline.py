@@ -82,7 +82,8 @@ class Result:
         rows = rows_of(kind, report)
         if rows is not None:
             return len(rows)
-        return int(not report.is_refused()) if kind.writes else -1
+        made = 0 if report.is_refused() else self._sent.statement.rows
+        return made if kind.writes else -1
 
     @property
     def next_page(self) -> str | None:

@@ -38,7 +38,8 @@ class Refusal(NamedTuple):
 
     `detail` tells which name, key or number of values it is, where the definitions are known; `table` and `key` are
     that table and its columns. `causes` are those of a query without a bound, as far as they are known for certain.
-    `condition` is the condition or the predicate, and `is_value` says that a value is at fault in it.
+    `condition` is the condition or the predicate, and `is_value` says that a value is at fault in it. Where a write of
+    a batch was refused, `number` and `fields` are its own, and `number_in_batch` says which one it is, from 1.
     """
 
     number: str
@@ -54,6 +55,8 @@ class Refusal(NamedTuple):
     causes: tuple[str, ...] = ()
     condition: str = ""
     is_value: bool = False
+    number_in_batch: int | None = None
+    write: str | None = None
 
 
 def one_line(text: str) -> str:

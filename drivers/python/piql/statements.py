@@ -1,6 +1,7 @@
 """A statement as its writer gives it: what kind it is, the places of its values, and how it is sent."""
 
 import hashlib
+from collections.abc import Sequence
 from enum import Enum
 from functools import lru_cache
 from typing import NamedTuple
@@ -9,6 +10,7 @@ from .errors import DatabaseError, DataError, ProgrammingError, refused
 from .plain import plain_text
 from .refusals import refusal_of
 from .scripts import KEYWORDS, STATEMENT_BYTES, Token, character_at, place_at, plain_number, tokens
+from .writes import WORDS, begins_of
 
 
 class Kind(Enum):
@@ -23,6 +25,7 @@ class Kind(Enum):
     INSERT = "INSERT"
     UPDATE = "UPDATE"
     DELETE = "DELETE"
+    BATCH = "BATCH"
     CREATE = "CREATE"
     ALTER = "ALTER"
     PREPARE = "PREPARE"
@@ -33,7 +36,8 @@ class Kind(Enum):
     def __init__(self, word: str) -> None:
         self.reads = word in ("SELECT", "RUN", "READ", "EXPLAIN", "SHOW")
         self.defines = word in ("CREATE", "ALTER", "PREPARE")
-        self.writes = word in ("INSERT", "UPDATE", "DELETE")
+        self.is_write = word in WORDS
+        self.writes = self.is_write or word == "BATCH"
         # Its answer is rows, and those of a query come page by page.
         self.has_rows = word in ("SELECT", "RUN", "READ")
         self.has_pages = word in ("SELECT", "RUN")
@@ -46,7 +50,7 @@ class Statement(NamedTuple):
     """A statement: its kind, the query that it runs or defines, its text cut at each `?`, and how many values it takes.
 
     `template` is the parts with `%s` between them, `widths` how many letters stand there in the text. `pages` says that
-    it has PAGINATE.
+    it has PAGINATE, and `rows` is how many rows it writes where it is made.
     """
 
     text: str
@@ -57,6 +61,7 @@ class Statement(NamedTuple):
     template: str
     widths: tuple[int, ...]
     pages: bool
+    rows: int
 
     def numbered(self) -> tuple[str, ...]:
         """What stands for each `?` in the text of a query."""
@@ -206,7 +211,8 @@ def read_text(text: str) -> Statement:
     parts = cut_at([(token.start, token.end) for token in places], text, found[-1].end)
     pages = any(token.is_word("PAGINATE") for token in found)
     widths = (1,) * len(places)
-    return Statement(text, kind, name_in(kind, found, texts), parts, params, template_of(parts), widths, pages)
+    rows = len(begins_of(found)) if kind is Kind.BATCH else int(kind.is_write)
+    return Statement(text, kind, name_in(kind, found, texts), parts, params, template_of(parts), widths, pages, rows)
 
 
 def cut_at(places: list[tuple[int, int]], text: str, end: int) -> tuple[str, ...]:
@@ -218,6 +224,19 @@ def cut_at(places: list[tuple[int, int]], text: str, end: int) -> tuple[str, ...
 def template_of(parts: tuple[str, ...]) -> str:
     """The parts with `%s` between them."""
     return "%s".join(part.replace("%", "%%") for part in parts)
+
+
+def batch_of(writes: Sequence[Sent]) -> Sent:
+    """Several writes as one statement, each with its values."""
+    parts = ["BATCH "]
+    for number, sent in enumerate(writes):
+        first, *rest = sent.statement.parts
+        parts[-1] += (", " if number else "") + first
+        parts += rest
+    cut, fillings = tuple(parts), tuple(it for sent in writes for it in sent.fillings)
+    params, widths = len(fillings), (1,) * len(fillings)
+    whole = Statement("?".join(cut), Kind.BATCH, "", cut, params, template_of(cut), widths, False, len(writes))
+    return Sent(whole, "", fillings)
 
 
 @lru_cache(maxsize=1024)

@@ -1,3 +1,3 @@
 """The version: the numbers of the language, of the file format and of the driver, as pyproject.toml has them."""
 
-VERSION = "6.4.3"
+VERSION = "7.4.3"

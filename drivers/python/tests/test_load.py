@@ -93,14 +93,20 @@ class MarkTest(unittest.TestCase):
         mark = Mark(self.path)
         self.assertFalse(mark.is_resumed)
         mark.begin()
-        mark.write(False, 5)
-        mark.write(True, 6)
+        mark.take(1, 0, 5)
+        mark.take(2, 1, 6)
+        mark.send(256)
         mark.close(False)
         again = Mark(self.path)
-        self.assertEqual((again.is_resumed, again.records, again.refused, again.sum), (True, 2, 1, 6))
+        found = (again.is_resumed, again.records, again.refused, again.sum, again.sent)
+        self.assertEqual(found, (True, 3, 1, 6, 256))
         again.begin()
         again.close(True)
         self.assertFalse(self.path.exists())
+
+    def test_one_of_before_has_sent_one_row(self) -> None:
+        self.path.write_text(f"{7:020} {2:020} {5:010}\n")
+        self.assertEqual(Mark(self.path).sent, 1)
 
     def test_one_of_a_load_that_was_killed_before_its_first_record_is_empty(self) -> None:
         self.path.write_text("")
@@ -186,11 +192,44 @@ class LoadTest(unittest.TestCase):
             with self.assertRaises(piql.OperationalError):
                 load(connection, "users", io.StringIO(broken), mark, tell)
             self.assertEqual(int(mark.read_text().split()[0]), cut)
-        connection.execute("INSERT INTO users VALUES ('n25', 'x')")
         with self.assertRaises(piql.ProgrammingError):
             load(connection, "users", io.StringIO(text.replace("n3,", "m3,")), mark, tell)
         self.assertEqual(load(connection, "users", io.StringIO(text), mark, tell), Loaded(40, 0))
         self.assertEqual(len(connection.execute("SELECT name FROM users ORDER BY name LIMIT 100").fetchall()), 40)
+
+    def test_rows_that_were_sent_before_a_stop(self) -> None:
+        """They are all there, and so made; or one isn't, and so none was made by that load."""
+        text = "name,town\n" + "".join(f"n{i},x\n" for i in range(9))
+        for there, refused in ((range(3, 7), 0), (range(3, 4), 1), (range(4, 7), 3), ((), 0)):
+            with self.subTest(there), io.StringIO() as tell, piql.connect(self.folder / f"{len(there)}.db") as connection:
+                connection.execute(FIRST)
+                mark = self.folder / "mark"
+                head = "\n".join(text.split("\n")[:4]) + '\n"'
+                with self.assertRaises(piql.OperationalError):
+                    load(connection, "users", io.StringIO(head), mark, tell)
+                mark.write_text(mark.read_text().replace(" 000\n", " 004\n"))
+                for i in there:
+                    connection.execute("INSERT INTO users VALUES (?, 'x')", (f"n{i}",))
+                self.assertEqual(load(connection, "users", io.StringIO(text), mark, tell), Loaded(9, refused))
+                found = connection.execute("SELECT name FROM users ORDER BY name LIMIT 100").fetchall()
+                self.assertEqual(len(found), 9)
+
+    def test_many_refused(self) -> None:
+        connection, tell, mark = self.migrated(FIRST, TOWN)
+        rows = [f"n{i % 300},x\n" if i % 7 else f"m{i},{'y' * 31}\n" for i in range(700)]
+        made: set[str] = set()
+        refused = []
+        for number, row in enumerate(rows, 1):
+            name, town = row.strip().split(",")
+            if name in made or len(town) > 30:
+                refused.append(number)
+            else:
+                made.add(name)
+        text = "name,town\n" + "".join(rows)
+        self.assertEqual(load(connection, "users", io.StringIO(text), mark, tell), Loaded(700, len(refused)))
+        told = [int(line.split(",")[0].removeprefix("record ")) for line in tell.getvalue().splitlines()[:-1]]
+        self.assertEqual(told, refused)
+        self.assertEqual(len(connection.execute("SELECT name FROM users ORDER BY name LIMIT 1000").fetchall()), len(made))
 
     def test_load_of_wrong_columns(self) -> None:
         connection, tell, mark = self.migrated(FIRST)

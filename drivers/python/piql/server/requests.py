@@ -8,7 +8,7 @@ from ..scripts import STATEMENT_BYTES, first_token, is_one_piece
 
 WORD = re.compile(rb"[A-Za-z_][A-Za-z0-9_]*+")
 READING = frozenset({"SELECT", "RUN", "READ", "EXPLAIN", "SHOW"})
-WRITING = frozenset({"INSERT", "UPDATE", "DELETE"})
+WRITING = frozenset({"INSERT", "UPDATE", "DELETE", "BATCH"})
 DEFINING = frozenset({"CREATE", "ALTER", "PREPARE"})
 COPY, OTHER = "COPY", "OTHER"
 KINDS = READING | WRITING | DEFINING | {COPY}
