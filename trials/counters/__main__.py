@@ -9,8 +9,8 @@ may be NULL, or a batch of up to six of them. It is made once over a copy of the
 it makes. Then it is made over the store, where one of these calls, drawn at random, fails: it is made or it isn't. The
 run has to end with status 5 at this call.
 
-Opened again, the store has to have the rows from before the write if no call of it that writes was made, and else those
-behind it. READ of each group of each counter has to answer how many of these rows are in it, and the store's pairs of
+The host makes what a statement writes at its last write. So opened again, the store has to have the rows from before
+the statement if that one wasn't made, and else those behind it. READ of each group of each counter has to answer how many of these rows are in it, and the store's pairs of
 counters have to be just those of these rows. The last line has the figures; the exit status is 0 where nothing is wrong.
 """
 
@@ -109,13 +109,16 @@ class Trial:
         behind = self.rows if refusal else made_by(self.rows, write)
         whole = ran(self.engine, copy_of(self.store), write.text())
         check_whole(whole, write, refusal)
-        stop = Stop(self.chance.randint(1, whole.calls), self.chance.random() < 0.5)
+        # The last call as often as any other: what is made at it stands.
+        call = self.chance.choice((self.chance.randint(1, whole.calls), whole.calls))
+        stop = Stop(call, self.chance.random() < 0.8)
         run = ran(self.engine, self.store, write.text(), stop)
         what = f"{write.text()} stopped at {stop}"
         expect((run.status, run.calls) == (STORE_FAULT, stop.call), f"{what}: {run}")
-        self.rows = behind if run.writes else self.rows
+        is_made = 0 < whole.writes == run.writes
+        self.rows = behind if is_made else self.rows
         opening = check_store(self.engine, self.store, self.rows, what)
-        self.figures["refused" if refusal else "made" if run.writes else "not made"] += 1
+        self.figures["refused" if refusal else "made" if is_made else "not made"] += 1
         self.figures["made whole by the opening"] += opening > QUIET
         self.figures["batches"] += isinstance(write, Batch)
 

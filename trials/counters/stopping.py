@@ -4,7 +4,8 @@ import io
 from typing import NamedTuple
 
 from piql.hosts import Host, MemoryStore, Op, run
-from piql.hosts.wire import CALLS, FAILURE, Request
+from piql.hosts.rounds import HELLO
+from piql.hosts.wire import FAILURE, NUMBER, SINGLE, Request, answer
 
 
 class Stop(NamedTuple):
@@ -22,7 +23,10 @@ class Stopping(Host):
         self.stop, self.asked, self.writes = stop, 0, 0
 
     def answer(self, request: Request) -> bytes:
-        if request.op not in CALLS:
+        if request.op is Op.COUNT and request.body == HELLO:
+            # As a host of before, so that each call comes by itself, and can be the one that fails.
+            return answer(NUMBER.pack(0))
+        if request.op not in SINGLE:
             return super().answer(request)
         self.asked += 1
         fails = self.stop is not None and self.asked == self.stop.call
