@@ -7,12 +7,11 @@
 """
 
 import contextlib
-from types import TracebackType
 from typing import TYPE_CHECKING
 
+from .collecting import Collecting, Reported
 from .connection import asked_of
 from .errors import BatchFull, ProgrammingError
-from .reports import Report, Work
 from .scripts import STATEMENT_BYTES
 from .statements import Kind, Sent, batch_of, read_statement
 from .writes import WRITES
@@ -26,7 +25,7 @@ FULL = f"a batch has at most {WRITES} writes and {STATEMENT_BYTES:,} bytes. This
 ENDS, BETWEEN = len("BATCH ;"), len(", ")
 
 
-class Batch:
+class Batch(Collecting, Reported):
     """Collects writes, and makes them as one. It belongs to one thread, as a cursor does.
 
     The first write that is refused refuses all of them: its exception has the number of the write, from 1, as `place`,
@@ -35,7 +34,6 @@ class Batch:
 
     def __init__(self, connection: "Connection", timeout: float | None) -> None:
         self.connection, self.timeout = connection, timeout
-        self._report: Report | None = None
         self._made = 0
         self._forget()
 
@@ -73,29 +71,11 @@ class Batch:
             self._report = self.connection.report(batch_of(writes))
         self._made = len(writes)
 
+    def _finish(self) -> None:
+        """Makes what is collected."""
+        self.make()
+
     @property
     def rowcount(self) -> int:
         """How many rows were written: one by each write, once the batch was made."""
         return self._made
-
-    @property
-    def bound(self) -> Work | None:
-        """What the batch might use at most; None before it was made."""
-        return None if self._report is None else self._report.end.bound
-
-    @property
-    def used(self) -> Work | None:
-        """What it has used."""
-        return None if self._report is None else self._report.end.used
-
-    def __enter__(self) -> "Batch":
-        return self
-
-    def __exit__(
-        self, kind: type[BaseException] | None, error: BaseException | None, at: TracebackType | None
-    ) -> None:
-        """Makes what is collected; nothing where the block has raised something."""
-        if kind is None:
-            self.make()
-        else:
-            self._forget()

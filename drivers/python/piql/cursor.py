@@ -3,9 +3,10 @@
 from collections.abc import Iterable, Iterator, Sequence
 from typing import TYPE_CHECKING, NamedTuple
 
+from .collecting import Reported
 from .errors import InterfaceError, NotSupportedError, ProgrammingError
 from .plain import plain_list, plain_rows, plain_text
-from .reports import Report, Row, Work
+from .reports import Report, Row
 from .scripts import NAME, pieces
 from .statements import Kind, Statement, check_utf8, read_statement
 from .unprepared import NO_PAGES
@@ -59,7 +60,7 @@ def rows_of(kind: Kind, report: Report) -> list[Row] | None:
     return explained(report) if kind is Kind.EXPLAIN else None
 
 
-class Cursor:
+class Cursor(Reported):
     """PEP 249's cursor, with the bound, what was used and the next page."""
 
     def __init__(self, connection: "Connection") -> None:
@@ -88,16 +89,6 @@ class Cursor:
     def rowcount(self) -> int:
         """How many rows the answer has, or how many were written; -1 where it is neither."""
         return self._made if self._rows is None else len(self._rows)
-
-    @property
-    def bound(self) -> Work | None:
-        """What the last statement might use at most."""
-        return None if self._report is None else self._report.end.bound
-
-    @property
-    def used(self) -> Work | None:
-        """What the last statement used."""
-        return None if self._report is None else self._report.end.used
 
     @property
     def next_page(self) -> str | None:

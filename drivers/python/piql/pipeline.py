@@ -7,9 +7,9 @@
 """
 
 import contextlib
-from types import TracebackType
 from typing import TYPE_CHECKING, NamedTuple
 
+from .collecting import Collecting
 from .connection import asked_of
 from .cursor import rows_of, run_text
 from .errors import (
@@ -113,7 +113,7 @@ class Line(NamedTuple):
     prepares: bool = False
 
 
-class Pipeline:
+class Pipeline(Collecting):
     """Collects statements, and sends them together. It belongs to one thread, as a cursor does.
 
     Each is made or refused by itself, in their order, and what follows a refusal goes on. Where `raises` holds, the
@@ -246,17 +246,9 @@ class Pipeline:
             if not line.prepares and result._error is None:
                 result._report = report
 
-    def __enter__(self) -> "Pipeline":
-        return self
-
-    def __exit__(
-        self, kind: type[BaseException] | None, error: BaseException | None, at: TracebackType | None
-    ) -> None:
-        """Sends what is collected; nothing where the block has raised something."""
-        if kind is None:
-            self.send()
-        else:
-            self._forget()
+    def _finish(self) -> None:
+        """Sends what is collected."""
+        self.send()
 
 
 def fill(results: list[Result], error: Error) -> None:
