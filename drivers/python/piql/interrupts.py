@@ -1,7 +1,10 @@
 """What comes between a call of the system and its caller: signals' handlers, and forks."""
 
+import contextlib
 import os
+import signal
 import weakref
+from collections.abc import Iterator
 from typing import Protocol
 
 
@@ -36,3 +39,24 @@ def is_of_call(error: OSError) -> bool:
     handler's own frame, and that of the call through none but the caller's.
     """
     return error.__traceback__ is not None and error.__traceback__.tb_next is None
+
+
+class Held:
+    """Whether an interrupt came that was held back."""
+
+    def __init__(self) -> None:
+        self.is_interrupted = False
+
+
+@contextlib.contextmanager
+def held_back() -> Iterator[Held]:
+    """Has an interrupt wait for the end of the block, where it is told by `is_interrupted` and raises nothing."""
+    held = Held()
+    before = signal.pthread_sigmask(signal.SIG_BLOCK, {signal.SIGINT})
+    try:
+        yield held
+    finally:
+        held.is_interrupted = signal.SIGINT in signal.sigpending()
+        if held.is_interrupted:
+            signal.sigwait({signal.SIGINT})
+        signal.pthread_sigmask(signal.SIG_SETMASK, before)

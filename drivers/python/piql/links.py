@@ -12,6 +12,7 @@ from .errors import DatabaseError, OperationalError, StoreGone
 from .interrupts import is_of_call
 from .lots import Asked, Tell
 from .runs import EngineLink, Run, check_owner, told_end
+from .stored import DEFINITIONS, StoredDefinition, opened, pairs, stored_definitions
 
 STANDS_READ = (
     "This statement changes nothing; all that was reported as ok before stands."
@@ -50,6 +51,9 @@ class Link(Protocol):
 
     def backup(self, path: str) -> None:
         """Copies the store between two statements."""
+
+    def stored(self) -> list[StoredDefinition] | None:
+        """Ends the run, and reads the definitions beside it; None where nobody but another process may."""
 
     def close(self) -> None:
         """Gives back what the link holds."""
@@ -139,6 +143,13 @@ class FileLink(EngineLink):
         self.check_there()
         copy_whole(self.path, path, self.program)
 
+    def stored(self) -> list[StoredDefinition]:
+        """Ends the run, and reads the definitions of the file, as a run left them that was ended."""
+        self.close()
+        self.check_there()
+        with opened(self.path) as file:
+            return stored_definitions(pairs(file, DEFINITIONS))
+
 
 class MemoryLink(EngineLink):
     """A store in memory, which ends with its run."""
@@ -164,3 +175,6 @@ class MemoryLink(EngineLink):
     def backup(self, path: str) -> None:
         """There is no file to copy."""
         raise OperationalError("a store in memory has no file that could be copied")
+
+    def stored(self) -> None:
+        """Nothing of a store in memory can be read but by its run."""

@@ -8,6 +8,7 @@ come out as `run` writes them.
 """
 
 import argparse
+import contextlib
 import os
 import sys
 from typing import NoReturn
@@ -18,6 +19,9 @@ from .engine import find_program
 from .errors import Error
 from .hosts.passwords import shown
 from .hosts.urls import is_url
+from .interrupted import what_stands
+from .interrupts import Held, held_back
+from .links import MemoryLink
 from .prompt import prompt
 from .reports import Work
 from .schema import Added, Table
@@ -27,7 +31,8 @@ from .statements import Kind, Sent, Statement, read_statement
 from .tables import table
 
 HELP = """\
-A statement ends with ; and may go over several lines. Ctrl-C leaves one that isn't whole.
+A statement ends with ; and may go over several lines. Ctrl-C leaves one that isn't whole. It ends one that is being
+made, and then says what stands; over a store in memory, which would be lost with it, it waits for the statement's end.
 A SELECT leaves nothing. One that wants an index, or further pages, is prepared first: .define NAME prepares the last
 SELECT for good under a name, and makes its index. RUN NAME then answers it, page by page.
 .tables     the tables         .queries    the prepared queries
@@ -107,6 +112,30 @@ class Shell:
         self.selected: Statement | None = None
         self.paged: tuple[str, str] | None = None
 
+    def tell_statement(self, text: str) -> bool:
+        """Prints what a statement is answered; whether it came to its end without an interrupt."""
+        held = Held()
+        try:
+            with self.whole() as held:
+                print(self.execute(text))
+        except KeyboardInterrupt:
+            self.tell_interrupt(text)
+            return False
+        return not held.is_interrupted
+
+    def whole(self) -> contextlib.AbstractContextManager[Held]:
+        """What an interrupt waits for: over a store in memory a statement's end, since its rows would be lost."""
+        return held_back() if isinstance(self.connection.link(), MemoryLink) else contextlib.nullcontext(Held())
+
+    def tell_interrupt(self, text: str) -> None:
+        """Prints what stands of a statement that was interrupted."""
+        try:
+            kind = read_statement(text).kind
+        except Error:
+            # Nothing of it was sent.
+            kind = Kind.SHOW
+        print(f"\ninterrupted: {what_stands(self.connection, kind, text)}")
+
     def execute(self, text: str, after: str | None = None) -> str:
         """What a statement is answered."""
         try:
@@ -170,9 +199,13 @@ class Shell:
     def tell_command(self, word: str) -> None:
         """Prints what a word with a point is answered."""
         try:
-            print(self.command(word))
+            with self.whole():
+                print(self.command(word))
         except Error as error:
             print(told(error))
+        except KeyboardInterrupt:
+            name = word.removeprefix(".define")
+            self.tell_interrupt("SHOW" if name == word else f"PREPARE {name} AS SELECT")
 
     def line(self, before: str, line: str) -> str:
         """Takes a line behind those that are no whole statement yet; prints answers; what is left."""
@@ -189,10 +222,10 @@ class Shell:
         rest = ""
         for piece in pieces(data):
             part = data[piece.start : piece.end].decode().strip()
-            if piece.is_whole:
-                print(self.execute(part))
-            else:
+            if not piece.is_whole:
                 rest = part + "\n"
+            elif not self.tell_statement(part):
+                return ""
         return rest
 
 

@@ -266,6 +266,9 @@ class SocketLink:
             why = f"the server didn't tell within {self.seconds:g} seconds that {path} is whole"
             raise OperationalError(why) from error
 
+    def stored(self) -> None:
+        """The store is the server's."""
+
     def close(self) -> None:
         """Closes the socket."""
         if self.socket is not None:

@@ -3,8 +3,9 @@
 import contextlib
 import os
 import sqlite3
-from collections.abc import Iterator
+from collections.abc import Iterable, Iterator
 from pathlib import Path
+from typing import NamedTuple
 
 from .errors import InternalError, OperationalError
 from .holding import IN_USE
@@ -20,6 +21,13 @@ READY, FILLING = 0, 1
 LEAST_LOG = 32 + 24 + 512
 # For how many seconds a file is tried that somebody has.
 WAIT = 5.0
+
+
+class StoredDefinition(NamedTuple):
+    """A definition as its pair has it: its canonical text, and whether the index that it may have made is filled."""
+
+    text: str
+    is_ready: bool
 
 
 def open_file(path: str, how: str = "mode=ro") -> sqlite3.Connection:
@@ -93,6 +101,11 @@ def read_stored_schema(file: sqlite3.Connection) -> Schema:
     # What reading does at a text that is not canonical.
     except (LookupError, RuntimeError, StopIteration, ValueError) as error:
         raise InternalError("a definition has a text that no run writes") from error
+
+
+def stored_definitions(found: Iterable[tuple[bytes, bytes]]) -> list[StoredDefinition]:
+    """The definitions of the catalog's pairs. A value begins with its format and its mark."""
+    return [StoredDefinition(it[2:].decode(errors="replace"), it[1:2] != bytes([FILLING])) for _, it in found]
 
 
 def stored_rows(file: sqlite3.Connection, number: int, columns: tuple[Column, ...]) -> Iterator[Row]:

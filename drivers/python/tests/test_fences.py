@@ -2,18 +2,23 @@
 
 import contextlib
 import io
+import struct
 import sys
 import unittest
 import unittest.mock
+from collections.abc import Callable
+from typing import NoReturn
 
 from clusters import HAS_ETCD, HAS_POSTGRES, databases, etcd_url, needs_postgres, postgres_url
 from piql.__main__ import main
 from piql.errors import InterfaceError, OperationalError
-from piql.hosts import Backend, Fault, Guard, Held, notices
+from piql.hosts import Backend, Fault, Guard, Held, Host, Op, notices
+from piql.hosts.etcd import EtcdStore
 from piql.hosts.fence_command import fence
 from piql.hosts.fenced import FencedStore
 from piql.hosts.postgres_durability import Durability, weaknesses
 from piql.hosts.urls import open_store
+from piql.hosts.wire import Request
 
 URLS = [make for make, is_there in ((etcd_url, HAS_ETCD), (postgres_url, HAS_POSTGRES)) if is_there]
 
@@ -104,6 +109,49 @@ class FreedTest(unittest.TestCase):
         with contextlib.redirect_stderr(io.StringIO()) as told:
             self.assertEqual(main(["fence", "site.db", "--free"]), 2)
         self.assertIn("only the store of a cluster has a fence", told.getvalue())
+
+
+class LeftTest(unittest.TestCase):
+    """A write that something else than a Fault has ended, as an interrupt at a prompt does."""
+
+    WRITE = Request(Op.WRITE, 0, bytes([Guard.ABSENT, 1]) + struct.pack(">IcI", 1, b"k", 0) + b"v")
+
+    def interrupt_next(self, store: FencedStore, is_sent: bool) -> Callable[[], object]:
+        """Has the next write be interrupted, before it is sent or behind its answer; what sends it then, or again."""
+        client, name = store.client, "once" if isinstance(store, EtcdStore) else "run"  # type: ignore[attr-defined]
+        send, words = getattr(client, name), []
+
+        def interrupted(*given: object) -> NoReturn:
+            words.extend(given)
+            setattr(client, name, send)
+            if is_sent:
+                send(*given)
+            raise KeyboardInterrupt
+
+        setattr(client, name, interrupted)
+        return lambda: send(*words)
+
+    def check(self, url: str, is_sent: bool) -> None:
+        """It is decided by the next run's beginning, and can be made no more behind it."""
+        store = open_store(url)
+        assert isinstance(store, FencedStore)
+        self.addCleanup(store.close)
+        store.begin()
+        late = self.interrupt_next(store, is_sent)
+        self.assertRaises(KeyboardInterrupt, Host([store]).answer, self.WRITE)
+        self.assertRaisesRegex(Fault, "a call was left", store.get, b"k")
+        self.assertFalse(store.is_begun())
+        store.begin()
+        self.assertEqual(store.get(b"k"), b"v" if is_sent else None)
+        late()
+        self.assertEqual(store.get(b"k"), b"v" if is_sent else None)
+        self.assertTrue(store.write(b"k", Guard.ANY, b"", b"w"))
+
+    def test_it_can_be_made_no_more(self) -> None:
+        for make in URLS:
+            for is_sent in (False, True):
+                with self.subTest(make.__name__, is_sent=is_sent):
+                    self.check(make(), is_sent)
 
 
 class DurabilityTest(unittest.TestCase):

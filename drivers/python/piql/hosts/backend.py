@@ -131,6 +131,12 @@ class Backend(abc.ABC):
         """Asked between two statements: whether what the engine has read may still be gone by."""
         return True
 
+    def leave(self) -> None:
+        """Called where something else than a Fault has ended a call, as a signal's handler does.
+
+        A write that was asked for may still be made then. The next `begin` decides it.
+        """
+
     def keep(self) -> None:
         """Called now and then while an engine is idle, by who wants to keep the store for himself."""
 

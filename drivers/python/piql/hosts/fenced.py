@@ -9,6 +9,7 @@ from typing import NoReturn
 from .backend import Backend, Fault
 
 GONE = "the fence is another engine's, or gone"
+LEFT = "a call was left before its answer"
 
 
 class FencedStore(Backend):
@@ -68,6 +69,10 @@ class FencedStore(Backend):
             except Fault:
                 return False
         return self.lost is None
+
+    def leave(self) -> None:
+        """Has the next run take the fence anew: behind that a write that was left can be made no more."""
+        self.lost = self.lost or LEFT
 
     def keep(self) -> None:
         """Renews the time of an idle engine's fence. The next statement begins anew where that fails."""

@@ -70,6 +70,10 @@ class Host:
             self.faults += 1
             self.why = str(fault)
             return FAILURE
+        except BaseException:
+            for backend in self.backends:
+                backend.leave()
+            raise
         return answer(body)
 
     def body(self, request: Request) -> bytes:

@@ -8,6 +8,7 @@ from ..engine import EngineEnded, find_program
 from ..errors import DatabaseError, InternalError, NotSupportedError, OperationalError
 from ..lots import Asked, Outcome, Tell
 from ..runs import EngineLink, told_end
+from ..stored import DEFINITIONS, StoredDefinition, stored_definitions
 from .backend import Backend, Fault, Held, Reading, Unreachable
 from .host import Host
 from .hosted import HostedEngine, Stalled
@@ -25,6 +26,9 @@ STANDS_WRITE = (
     "This statement was made whole or not at all; all that was reported as ok before stands."
     " The next statement opens the store anew, which settles it."
 )
+# The keys of definitions, of which a store has no more.
+CATALOG = bytes([DEFINITIONS]), bytes([DEFINITIONS + 1])
+DEFINITIONS_MOST = 256
 # What a backend raises that stumbles over what a server answered, or over itself.
 STRANGE = (ArithmeticError, AttributeError, LookupError, TypeError, ValueError)
 UNSENT = "Nothing was sent."
@@ -132,6 +136,19 @@ class HostLink(EngineLink):
         """A cluster is copied by its own means."""
         raise OperationalError(NO_COPY.format(name=self.name))
 
+    def stored(self) -> list[StoredDefinition] | None:
+        """Ends the run, and reads the definitions, behind whatever was still asked for of the store."""
+        self.end_run()
+        try:
+            for backend in self.backends:
+                backend.begin()
+            found = [pair for it in self.backends for pair in it.range(*CATALOG, DEFINITIONS_MOST)]
+        except (Fault, Held) as error:
+            raise OperationalError(f"{self.name}: {error}") from error
+        except STRANGE as error:
+            raise stumbled(error, UNSENT) from error
+        return stored_definitions(found)
+
     def end_run(self) -> None:
         """Ends the run, and keeps the store."""
         super().close()
@@ -191,6 +208,9 @@ class ReaderLink(HostLink):
         engine = self.begin()
         self.definitions = self.reading.definitions
         return engine
+
+    def stored(self) -> None:
+        """The definitions are the writer's, and nothing that is sent here changes them."""
 
     def pin(self) -> None:
         """Takes a new revision."""
