@@ -16,8 +16,8 @@ from tools.words import Wrong
 
 NAME = "plan"
 PROGRAM = "piql_plan"
-# The words that a query is defined or told by.
-QUERIES = ("PREPARE", "EXPLAIN")
+# The words that a query is defined, told or answered by.
+QUERIES = ("PREPARE", "EXPLAIN", "SELECT")
 
 
 def refused_band(told: Told, head: str, text: str, statement: str) -> Band:
@@ -30,12 +30,14 @@ def refused_band(told: Told, head: str, text: str, statement: str) -> Band:
 
 def planned_band(told: Told, head: str, statement: str) -> Band:
     """A query with its plan. The bound that is told has to be the sum of the nodes."""
-    (query,) = told.report.queries()
-    if told.cost != query.bound:
-        raise Wrong(f"the nodes of {query.name} sum to {told.cost}, and its bound is {query.bound}", NO_PROGRAM)
+    # A SELECT has no name, and its bound stands at its end alone.
+    named = [(it.name, it.bound) for it in told.report.queries()]
+    ((name, bound),) = named or [("select", told.report.end.bound)]
+    if told.cost != bound:
+        raise Wrong(f"the nodes of {name} sum to {told.cost}, and its bound is {bound}", NO_PROGRAM)
     wanted = told.report.indexes()
     indexes = "".join(f"; wants index {it.number} of {it.table} ({', '.join(it.columns)})" for it in wanted)
-    return Band(f"{head}: {query.name}", statement, told.nodes, f"bound: {work_text(*told.cost)}{indexes}", False)
+    return Band(f"{head}: {name}", statement, told.nodes, f"bound: {work_text(*told.cost)}{indexes}", False)
 
 
 def band_of(told: Told, script: Script) -> Band | None:

@@ -6,8 +6,11 @@ import sys
 import textwrap
 from typing import NamedTuple
 
-from piql.refusals import refusal_of
+from piql.counting import counted
+from piql.details import detail_of
+from piql.refusals import Refusal, refusal_of, with_causes
 from piql.reports import DamageLine, DefinitionLine, IndexLine, OpeningLine, QueryLine, Report, read_reports
+from piql.schema import Schema
 from piql.scripts import Piece, Token, character_at, pieces, place_at, tokens
 from piql.tables import table
 from piql.writes import IN_BATCH, write_of
@@ -23,6 +26,7 @@ NAME = "tell"
 WIDTH = 100
 # The cause of these is told by the way out for the case at hand.
 BY_CASES = ("E104", "E206")
+UNBOUNDED = "E304"
 # What a document writes around a link and a code.
 LINK = re.compile(r"\[([^\]]*)\]\([^)]*\)")
 
@@ -98,6 +102,20 @@ def wrapped(text: str, head: str = "") -> list[str]:
     return textwrap.wrap(head + plain, WIDTH, initial_indent="  ", subsequent_indent="    ") if text else []
 
 
+def refused(fields: tuple[str, ...], text: str, at: int | None, shapes: Shapes) -> Refusal:
+    """A refusal of a text, with what the tables tell of it; `at` is where its tokens spell nothing."""
+    if at is not None:
+        return refusal_of(fields, text, place_at(text, at))
+    detail = detail_of(fields, text, Schema(tuple(shapes.tables.values())))
+    return with_causes(refusal_of(fields, text)._replace(**detail._asdict()))
+
+
+def cause_of(refusal: Refusal) -> str:
+    """Why it is refused. What the tables tell of a query without a bound stands for what is so of each of them."""
+    is_short = refusal.number in BY_CASES or refusal.number == UNBOUNDED and refusal.detail
+    return f"{refusal.headline if is_short else refusal.cause} {refusal.detail}".rstrip()
+
+
 def tell_refusal(script: Script, report: Report, shapes: Shapes) -> None:
     """A refusal with its place, its cause and the way out."""
     number, fields = report.end.number, report.end.refusal
@@ -108,12 +126,11 @@ def tell_refusal(script: Script, report: Report, shapes: Shapes) -> None:
     at = script.pieces[number].start + within
     line = script.data.count(b"\n", 0, at) + 1
     own, part = own_refusal(fields, found, text)
-    refusal = refusal_of(own, part, place_at(text, character_at(piece, within)) if own[0] == "E104" else None)
+    refusal = refused(own, part, character_at(piece, within) if own[0] == "E104" else None, shapes)
     print(f"{script.name}:{line}: statement {number} is refused: {' '.join(fields)}")
     print(*show_line(script, at), sep="\n")
-    cause = refusal.headline if own[0] in BY_CASES else refusal.cause
     head = f"write {fields[1]} of the batch: " if fields[0] == IN_BATCH else ""
-    print(*wrapped(cause, head), *wrapped(refusal.way_out, "way out: "), "", sep="\n")
+    print(*wrapped(cause_of(refusal), head), *wrapped(refusal.way_out, "way out: "), "", sep="\n")
 
 
 def names_of(report: Report, known: list[str]) -> list[str]:
@@ -132,8 +149,7 @@ def tell_answer(script: Script, report: Report, shapes: Shapes) -> None:
     if report.rows:
         print(textwrap.indent(table(names_of(report, shapes.answered_by(found)), report.rows), "  "))
     pages = f", the next page is behind '{end.cursor}'" if end.cursor else ""
-    rows = "1 row" if end.rows == 1 else f"{end.rows} rows"
-    print(f"  {rows}{pages}; bound {end.bound}, used {end.used}\n")
+    print(f"  {counted(end.rows or 0, 'row')}{pages}; bound {end.bound}, used {end.used}\n")
 
 
 def tell_lines(report: Report) -> None:
@@ -164,7 +180,7 @@ def tell_all(script: Script, written: str) -> int:
         if report.end.rows is not None:
             tell_answer(script, report, shapes)
         tell_lines(report)
-    print(f"{count} statements, {refused} refused")
+    print(f"{counted(count, 'statement')}, {refused} refused")
     return refused
 
 

@@ -8,10 +8,12 @@ import unittest
 from xml.etree import ElementTree
 
 from piql.reports import Work
+from piql.scripts import tokens
 from tools.documents import blocks
 from tools.picture import Band, page
 from tools.plans import Node, read_node, read_plans
 from tools.repository import TOP
+from tools.tell import read_script
 from tools.tests.copies import built, new_folder
 
 STORED = TOP / "crates/piql_plan"
@@ -54,12 +56,12 @@ class ReadingTest(unittest.TestCase):
 
     def test_the_nodes_of_each_query_sum_to_its_bound(self) -> None:
         found = list(read_plans((STORED / "stdout").read_text()))
-        self.assertEqual([told.report.end.number for told in found], list(range(1, 12)))
+        self.assertEqual([told.report.end.number for told in found], list(range(1, 14)))
         bounds = [(told.cost, query.bound) for told in found for query in told.report.queries()]
         self.assertEqual([bound for _, bound in bounds], [Work(104, 403), Work(106, 605), Work(1, 1)])
         for cost, bound in bounds:
             self.assertEqual(cost, bound)
-        self.assertEqual([len(told.nodes) for told in found], [0, 0, 0, 0, 8, 6, 4, 0, 0, 0, 0])
+        self.assertEqual([len(told.nodes) for told in found], [0, 0, 0, 0, 8, 6, 4, 0, 4, 0, 0, 0, 0])
 
 
 class PageTest(unittest.TestCase):
@@ -71,12 +73,12 @@ class PageTest(unittest.TestCase):
         run = run_plan("--lines", STORED / "stdout", self.script)
         self.assertEqual((run.returncode, run.stderr), (1, ""))
         found = texts(run.stdout)
-        heads = ["5: feed", "6: explain", "7: town", "9: refused", "10: refused", "11: refused"]
+        heads = ["5: feed", "6: explain", "7: town", "9: select", *(f"{number}: refused" for number in range(10, 14))]
         self.assertEqual([text for text in found if re.match(r"\d+: ", text)], heads)
         self.assertIn("bound: 104 operations, 403 entries", found)
         wants = "bound: 106 operations, 605 entries; wants index 1 of thoughts (owner, stamp DESC)"
         self.assertIn(wants, found)
-        self.assertEqual(run.stdout.count(' class="reads"/>') + run.stdout.count(' class="box"/>'), 18)
+        self.assertEqual(run.stdout.count(' class="reads"/>') + run.stdout.count(' class="box"/>'), 22)
         self.assertTrue(any(text.startswith("E304 t: ") for text in found))
 
     def test_the_picture_of_the_documents_is_the_one_that_is_drawn(self) -> None:
@@ -113,10 +115,13 @@ class ProgramTest(unittest.TestCase):
         for script in sorted((TOP / "examples").glob("*.piql")):
             run = subprocess.run([PROGRAM], input=script.read_bytes(), capture_output=True)
             self.assertIn(run.returncode, (0, 1), script.name)
+            pieces = read_script(str(script))
             for told in read_plans(run.stdout.decode()):
-                for query in told.report.queries():
-                    self.assertEqual(told.cost, query.bound, (script.name, query.name))
-                self.assertEqual(bool(told.nodes), bool(told.report.queries()), script.name)
+                number, bound = told.report.end.number, told.report.end.bound
+                bounds = [query.bound for query in told.report.queries()]
+                if not told.report.is_refused() and tokens(pieces.piece(number).decode())[0].is_word("SELECT"):
+                    bounds.append(bound)
+                self.assertEqual([told.cost] if told.nodes else [], bounds, (script.name, number))
 
 
 if __name__ == "__main__":

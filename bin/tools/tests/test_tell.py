@@ -61,7 +61,7 @@ NAME:4: statement 2 is refused: E501 t c
        |                   ^
   a value doesn't fit its column. It is of another kind, a text longer than the column, or NULL for
     a column that isn't nullable, as each column of a key. Or the column of an ADD is no INT.
-    Lengths are in bytes of UTF-8, not in letters.
+    Lengths are in bytes of UTF-8, not in letters. c is BOOL, and takes no NULL.
   way out: cut or refuse it in the site. A column can't be made nullable later.
 
   query q: bound 1 9 (stop 1)
@@ -91,7 +91,7 @@ NAME:8: statement 10 is refused: E501 t w
        |                                     ^
   a value doesn't fit its column. It is of another kind, a text longer than the column, or NULL for
     a column that isn't nullable, as each column of a key. Or the column of an ADD is no INT.
-    Lengths are in bytes of UTF-8, not in letters.
+    Lengths are in bytes of UTF-8, not in letters. w is INT, and takes no NULL.
   way out: cut or refuse it in the site. A column can't be made nullable later.
 
 NAME:9: read c ('x');
@@ -116,7 +116,7 @@ NAME:11: statement 15 is refused: E511 t 2
     11 | UPDATE t SET c = TRUE WHERE a = 7 IF b = 'x' AND c IS NULL;
        |                                                  ^
   the row is another than was read. The row with this key is there, and condition 2 of the write,
-    counted from 1, doesn't hold of it. Nothing was made.
+    counted from 1, doesn't hold of it. Nothing was made. Condition 2 doesn't hold of it: c IS NULL.
   way out: read the row again, and write what is right now, on the condition that it is still so; or
     tell the user that it was changed meanwhile. IS NULL is the condition for a value that isn't
     there, as no comparison holds at NULL.

@@ -5,7 +5,7 @@
     bounds FILE [--write|--check P]  prints each query's bound; writes bounds.lock, or fails where a bound rose
     backup FILE COPY                 makes a whole copy
     restore COPY FILE                puts a copy in the file's place; the file of before gets another name
-    verify FILE                      goes over a whole store; 0 sound, 1 differences, 5 it can't be read
+    verify FILE                      goes over a whole store; 0 sound, 1 with differences, 5 it can't be read
     load FILE TABLE < CSV            inserts rows; the first line names the columns
     rebuild OLD NEW SCHEMA           makes a new file with the old one's rows under another schema
     rebuild OLD SCHEMA --replace     the same; the new file then takes the old one's place
@@ -22,6 +22,7 @@ import sys
 
 from . import connect, shell, status
 from .bounds import BoundsRose, check_bounds, write_bounds
+from .counting import counted
 from .errors import Error, ProgrammingError
 from .hosts.fence_command import fence
 from .hosts.script import run_url
@@ -50,7 +51,7 @@ def run_migrate(given: argparse.Namespace) -> int:
     """Grows a schema."""
     with connect(given.file, index_rows=given.index_rows) as connection:
         made = migrate(connection, given.schema, out=sys.stdout)
-    print(f"{len(made)} definitions made")
+    print(f"{counted(len(made), 'definition')} made")
     return 0
 
 

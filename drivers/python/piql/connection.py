@@ -8,7 +8,8 @@ from collections.abc import Callable, Iterator, Sequence
 from typing import TYPE_CHECKING
 
 from . import errors
-from .details import Detail, counted, detail_of, has_detail
+from .counting import counted
+from .details import Detail, detail_of, has_detail
 from .errors import InterfaceError, InternalError, NotSupportedError, OperationalError, ProgrammingError, refused
 from .hosts.link import ReaderLink
 from .interrupts import own

@@ -4,6 +4,7 @@ from collections.abc import Callable
 from typing import NamedTuple
 
 from .conditions import conditions_of, is_place, operand_of, shown
+from .counting import counted
 from .schema import Column, Schema, Table, columns_behind
 from .scripts import Token, tokens
 from .selects import Unread
@@ -27,11 +28,6 @@ class Detail(NamedTuple):
 def listed(names: tuple[str, ...]) -> str:
     """Names for a reader."""
     return ", ".join(names)
-
-
-def counted(number: int, noun: str) -> str:
-    """A number of things."""
-    return f"{number} {noun}{'' if number == 1 else 's'}"
 
 
 def of_name(schema: Schema, _: list[Token], name: str) -> Detail:
@@ -97,6 +93,11 @@ def of_reference(schema: Schema, _: list[Token], table: str, number: str) -> Det
     return Detail(f"It is ({listed(names)}) of {table}, which refers to {parent}.", table, names)
 
 
+def of_key(schema: Schema, _: list[Token], name: str) -> Detail:
+    """The table and its key."""
+    return Detail(table=name, key=schema.tables()[name].key)
+
+
 def of_limit(schema: Schema, _: list[Token], table: str, number: str, most: str) -> Detail:
     """The limit of this number."""
     names, _parent = columns_behind(schema.tables()[table], "CARDINALITY", "LIMIT")[int(number) - 1]
@@ -118,8 +119,10 @@ def of_operand(_: Schema, found: list[Token], number: str) -> Detail:
 
 def of_condition(_: Schema, found: list[Token], table: str, number: str) -> Detail:
     """The condition of this number, which doesn't hold of the row."""
-    text = shown(conditions_of(found)[int(number) - 1])
-    return Detail(f"Condition {number} doesn't hold of it: {text}.", table, condition=text)
+    condition = conditions_of(found)[int(number) - 1]
+    text = shown(condition)
+    column = condition[0].text.lower()
+    return Detail(f"Condition {number} doesn't hold of it: {text}.", table, (column,), condition=text)
 
 
 READERS: dict[str, Callable[..., Detail]] = {
@@ -128,6 +131,8 @@ READERS: dict[str, Callable[..., Detail]] = {
     "E402": of_values,
     "E501": of_column,
     "E502": of_columns,
+    "E503": of_key,
+    "E504": of_key,
     "E505": of_reference,
     "E506": of_reference,
     "E507": of_limit,

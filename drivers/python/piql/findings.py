@@ -4,6 +4,7 @@ import time
 from collections.abc import Iterable, Iterator
 from typing import TextIO
 
+from .counting import counted
 from .hosts.backend import Pair
 from .load import QUIET
 
@@ -33,5 +34,5 @@ class Findings:
             self.pairs += 1
             if time.monotonic() - self.told > QUIET:
                 self.told = time.monotonic()
-                self.note(f"{self.pairs} pairs, {self.differences} differences")
+                self.note(f"{counted(self.pairs, 'pair')}, {counted(self.differences, 'difference')}")
             yield pair

@@ -14,6 +14,7 @@ from pathlib import Path
 from typing import NamedTuple, TextIO
 
 from .connection import Connection
+from .counting import counted
 from .errors import DatabaseError, DataError, OperationalError, ProgrammingError
 from .marks import Mark
 from .plain import plain_path
@@ -252,7 +253,7 @@ class Load:
         now = time.monotonic()
         if is_last or now - self.told > QUIET:
             self.told = now
-            print(f"{self.mark.records} records, {self.mark.refused} refused", file=self.tell, flush=True)
+            print(f"{counted(self.mark.records, 'record')}, {self.mark.refused} refused", file=self.tell, flush=True)
 
     def run(self, records: Iterator[Record]) -> None:
         """Takes the records behind the mark. Those before it have to be the ones that were taken."""

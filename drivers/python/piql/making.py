@@ -6,6 +6,7 @@ from collections.abc import Iterable
 from typing import NamedTuple, TextIO
 
 from .backup import PART, make_one_file
+from .counting import counted
 from .engine import find_program
 from .errors import OperationalError, ended
 from .filling import UnsyncedStore
@@ -73,5 +74,5 @@ def make(new: str, scripts: Iterable[str], tell: TextIO, program: Program = None
             put_in_place(part, new)
     except (OSError, Fault, Held) as error:
         raise OperationalError(f"{new} can't be made: {error}") from error
-    print(f"{made.statements} statements, {made.refused} refused", file=tell)
+    print(f"{counted(made.statements, 'statement')}, {made.refused} refused", file=tell)
     return made

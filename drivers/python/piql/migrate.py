@@ -7,6 +7,7 @@ from pathlib import Path
 from typing import NamedTuple, TextIO
 
 from .connection import Connection
+from .counting import counted
 from .engine import find_program
 from .errors import Error, InterfaceError, OperationalError, ProgrammingError, refused
 from .links import FileLink, Link, MemoryLink
@@ -54,7 +55,7 @@ def told_lines(it: Wanted, rows: Mapping[str, int]) -> list[str]:
 
 def over(table: str, rows: Mapping[str, int]) -> str:
     """How many rows an index goes over, if that is known."""
-    return f" over {rows[table]} rows" if table in rows else ""
+    return f" over {counted(rows[table], 'row')}" if table in rows else ""
 
 
 def define_each(scratch: Connection, script: str, source: str) -> list[Report]:

@@ -11,6 +11,7 @@ from typing import NamedTuple, TextIO
 
 from .backup import PART
 from .connection import Connection
+from .counting import counted
 from .errors import DatabaseError, OperationalError, ProgrammingError
 from .filling import filled
 from .holding import held
@@ -95,7 +96,7 @@ class Copying:
             print(f"{name}: {error}", file=self.tell)
         if time.monotonic() - self.told > QUIET:
             self.told = time.monotonic()
-            print(f"{self.rows} rows, {self.refused} refused", file=self.tell, flush=True)
+            print(f"{counted(self.rows, 'row')}, {self.refused} refused", file=self.tell, flush=True)
 
 
 def copy_rows(file: sqlite3.Connection, connection: Connection, values: Values, tell: TextIO) -> Rebuilt:
@@ -108,7 +109,7 @@ def copy_rows(file: sqlite3.Connection, connection: Connection, values: Values, 
     copying = Copying(file, connection, tell)
     for after, before, sources in planned:
         copying.copy_table(numbers[before.name], before, after, sources)
-    print(f"{copying.rows} rows, {copying.refused} refused", file=tell)
+    print(f"{counted(copying.rows, 'row')}, {copying.refused} refused", file=tell)
     return Rebuilt(copying.rows, copying.refused)
 
 

@@ -104,8 +104,10 @@ def unbounded(rule: Rule, statement: str, known: tuple[str, ...] = ()) -> str:
     """The ways out of the causes that a query without a bound has, or may have where none are known."""
     causes = [(case, way) for case, way in rule.cases if CODE.search(case)]
     likely = [(case, way) for case, way in causes if has_cause(case, statement)]
-    found = [(case, way) for case, way in causes if known and case.startswith(known)]
-    return "; ".join(f"{case}: {one_line(way)}" for case, way in found or likely or causes)
+    found = [(case, way) for case, way in causes if known and case.startswith(known)] or likely or causes
+    if len(found) == 1:
+        return one_line(found[0][1])
+    return "; ".join(f"{case}: {one_line(way)}" for case, way in found)
 
 
 def with_causes(refusal: Refusal) -> Refusal:

@@ -7,6 +7,7 @@ import sys
 from typing import TextIO
 
 from .backup import PART, copy_with_log, make_one_file
+from .counting import counted
 from .engine import find_program
 from .errors import DatabaseError, InternalError, OperationalError
 from .holding import held, held_for_reading
@@ -47,7 +48,7 @@ def check_whole(part: str, copy: str, tell: TextIO, program: str) -> None:
     """Refuses a copy whose pairs differ from one another."""
     done = verify(part, tell, sys.stderr, program)
     if done.differences:
-        why = f"it has {done.differences} differences; --unchecked takes it as it is"
+        why = f"it has {counted(done.differences, 'difference')}; --unchecked takes it as it is"
         raise InternalError(f"{copy} isn't restored: {why}")
 
 

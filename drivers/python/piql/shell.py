@@ -67,17 +67,22 @@ def underlined(statement: str, place: Place) -> str:
     return f"  {line}\n  {indent}^"
 
 
+def plain(text: str) -> str:
+    """A text without the marks of the document that it is from."""
+    return text.replace("`", "")
+
+
 def told(error: Error) -> str:
     """An error for a reader: what was refused, where, why, and the way out."""
     refusal = error.refusal
     if refusal is None:
         return str(error)
     head = " ".join([refusal.number, *refusal.fields.values()])
-    lines = [f"{head}: {refusal.headline} {refusal.detail}".rstrip()]
+    lines = [plain(f"{head}: {refusal.headline} {refusal.detail}").rstrip()]
     if refusal.place is not None:
         lines.append(underlined(refusal.statement, refusal.place))
     if refusal.way_out:
-        lines.append(f"way out: {refusal.way_out}")
+        lines.append(plain(f"way out: {refusal.way_out}"))
     return "\n".join(lines)
 
 

@@ -78,6 +78,9 @@ def or_within(found: Sequence[Token], at: int) -> int:
 def way_out_at(cases: Iterable[tuple[str, str]], statement: str, character: int) -> str:
     """The way out of the case whose code fits best around the token at a character, or nothing."""
     found = tokens(statement)
+    if not found or not found[-1].is_mark(";"):
+        # The driver's statements end without it.
+        found.append(Token("mark", ";", len(statement), len(statement) + 1))
     at = next((i for i, token in enumerate(found) if token.start <= character < token.end), None)
     if at is None:
         return ""

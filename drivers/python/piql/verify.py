@@ -12,6 +12,7 @@ from typing import NamedTuple, TextIO
 
 from .changes import read_changes
 from .checks import check_outside, check_pairs_of, space
+from .counting import counted
 from .errors import InternalError, OperationalError
 from .findings import Findings
 from .hosts.backend import Fault
@@ -131,5 +132,5 @@ def verify(target: str, out: TextIO, tell: TextIO, program: Program = None, fold
     findings = Findings(out, tell)
     with source_of(plain_path(target, "the store"), folder) as source:
         check_store(source, findings, program)
-    print(f"{findings.pairs} pairs, {findings.differences} differences", file=out)
+    print(f"{counted(findings.pairs, 'pair')}, {counted(findings.differences, 'difference')}", file=out)
     return Verified(findings.pairs, findings.differences)

@@ -61,9 +61,9 @@ DETAILS = [
         "issues",
         ("project", "score"),
     ),
-    (("E511", "issues", "2"), f"{CHANGE} IF mark = 987 AND score IS NULL", f"{UNMET % 2}score IS NULL.", "issues", ()),
-    (("E511", "issues", "1"), f"{CHANGE} if MARK<>'secret';", f"{UNMET % 1}MARK <> ?.", "issues", ()),
-    (("E511", "if", "1"), f"DELETE FROM if WHERE {KEYED} IF if > 987", f"{UNMET % 1}if > ?.", "if", ()),
+    (("E511", "issues", "2"), f"{CHANGE} IF mark = 987 AND score IS NULL", f"{UNMET % 2}score IS NULL.", "issues", ("score",)),
+    (("E511", "issues", "1"), f"{CHANGE} if MARK<>'secret';", f"{UNMET % 1}MARK <> ?.", "issues", ("mark",)),
+    (("E511", "if", "1"), f"DELETE FROM if WHERE {KEYED} IF if > 987", f"{UNMET % 1}if > ?.", "if", ("if",)),
     (("E511", "issues", "3"), f"{CHANGE} IF mark = 987", "", None, ()),
     (("E302", "2"), f"{CHANGE} IF mark = 987 AND score < ? AND mark = 1", "It is score < ?.", None, ()),
     (("E302", "1"), "SELECT * FROM issues AS i WHERE i.mark = 'secret' ORDER BY i.mark", "It is i.mark = ?.", None, ()),
@@ -72,7 +72,9 @@ DETAILS = [
     (("E514", "issues", "score"), CHANGE, "score is INT NULL.", "issues", ("score",)),
     (("E505", "issues", "2"), INSERT, "", None, ()),
     (("E505", "nothing", "1"), INSERT, "", None, ()),
-    (("E503", "issues"), INSERT, "", None, ()),
+    (("E503", "issues"), INSERT, "", "issues", ("project", "number")),
+    (("E504", "issues"), CHANGE, "", "issues", ("project", "number")),
+    (("E503", "others"), INSERT, "", None, ()),
 ]
 # A statement, the token at which it spells nothing, and words of its way out.
 MISREAD = [
@@ -106,6 +108,10 @@ MISREAD = [
     ("INSERT INTO t VALUES (1, 2) IF NOT EXISTS", "IF", "E503 says"),
     ("SELECT 1", "1", "columns of a table"),
     ("SELECT a FROM t HAVING a = 1", "HAVING", "a column that has the number"),
+    # Where a statement ends too soon, with its `;` and without.
+    ("READ c;", ";", "the form is `READ c"),
+    ("READ c", "", "the form is `READ c"),
+    ("SELECT a FROM t WHERE active", "", "a column, a comparison and a value"),
     ("SELECT FROM t", "FROM", "the form is `SELECT x.a"),
 ]
 

@@ -186,7 +186,7 @@ class PromptTest(FormCase):
         said = out.getvalue()
         for part in (
             "E406 users: the SELECT wants an index",
-            "`PREPARE name AS SELECT u.name FROM users u WHERE u.city = [1] LIMIT 5` makes",
+            "PREPARE name AS SELECT u.name FROM users u WHERE u.city = [1] LIMIT 5 makes",
             "query in_oslo: at most 6 operations, 10 entries\nindex 1 of users: city",
             "250 of 256 definitions are left\n",
             "name\n----\nann\n1 row\nat most 6 operations, 10 entries; used 2, 2\n",

@@ -268,7 +268,7 @@ class CommandTest(unittest.TestCase):
         done = self.run_piql("restore", copy, path)
         self.assertEqual((done.returncode, done.stderr), (0, ""))
         lines = done.stdout.splitlines()
-        self.assertEqual(lines[0], "1 pairs, 0 differences")
+        self.assertEqual(lines[0], "1 pair, 0 differences")
         aside = lines[1].removeprefix(f"what was {path} is ").partition(";")[0]
         for name, rows in ((path, []), (aside, [(1,)])):
             with piql.connect(name) as connection:
@@ -288,6 +288,6 @@ class CommandTest(unittest.TestCase):
         path, copy = folder / "store.db", folder / "copy.db"
         make_store(copy, DEFINITION | {b"\x03\x01\x01x": b""}, {})
         done = self.run_piql("restore", copy, path)
-        told = "03010178 no row asks for it\n2 pairs, 1 differences\n"
+        told = "03010178 no row asks for it\n2 pairs, 1 difference\n"
         self.assertEqual((done.returncode, done.stdout, os.listdir(folder)), (2, told, ["copy.db"]))
         self.assertEqual(self.run_piql("restore", "--unchecked", copy, path).returncode, 0)

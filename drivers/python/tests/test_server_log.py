@@ -189,7 +189,7 @@ class EventsTest(ServedCase):
         self.assertEqual(read_frame(connected(self, self.at))[0], BROKEN)
         self.assertEqual(read_frame(client)[0], BROKEN)
         _, errors = server.end()
-        self.assertIn(f'event=client-refused client=2 user={os.geteuid()} why="there are 1 clients already"', errors)
+        self.assertIn(f'event=client-refused client=2 user={os.geteuid()} why="there is 1 client already"', errors)
         self.assertIn('event=client-left client=1 why="nothing came for 0.5 seconds"', errors)
 
     def test_the_levels(self) -> None:

@@ -154,7 +154,7 @@ class ToldTest(unittest.TestCase):
         error = caught.exception
         self.assertIn("u.town = .. is a test of u, which is read after p.", str(error))
         self.assertEqual((error.table, error.key, error.fields), ("posts", (), {"alias": "p"}))
-        self.assertEqual(error.way_out, "a filter on a table after `JOIN`: the column copied to the first table")
+        self.assertEqual(error.way_out, "the column copied to the first table")
 
 
 def random_query(source: random.Random) -> str:

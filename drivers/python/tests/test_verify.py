@@ -18,6 +18,7 @@ from killing import make_store
 from piql import verify as verifying
 from piql.changes import read_changes
 from piql.checks import merged
+from piql.counting import counted
 from piql.findings import Findings
 from piql.hosts.backend import Fault, Guard, Pair, Reading
 from piql.hosts.memory import MemoryStore
@@ -230,7 +231,7 @@ class VerifyTest(unittest.TestCase):
         out, tell = io.StringIO(), io.StringIO()
         done = verify(str(path), out, tell)
         lines = out.getvalue().splitlines()
-        self.assertEqual(lines.pop(), f"{done.pairs} pairs, {done.differences} differences")
+        self.assertEqual(lines.pop(), f"{done.pairs} pairs, {counted(done.differences, 'difference')}")
         self.noted = tell.getvalue()
         return {name: what for name, _, what in (line.partition(" ") for line in lines)}, done
 
@@ -410,7 +411,7 @@ class CommandTest(unittest.TestCase):
                 with piql.connect(f"unix:{socket}") as connection:
                     connection.execute("CREATE TABLE t (a INT, PRIMARY KEY (a))")
                     done = self.run_verify(f"unix:{socket}", "--folder", folder)
-                    self.assertEqual((done.returncode, done.stdout), (0, "1 pairs, 0 differences\n"))
+                    self.assertEqual((done.returncode, done.stdout), (0, "1 pair, 0 differences\n"))
                     connection.execute("INSERT INTO t VALUES (1)")
             finally:
                 server.terminate()

@@ -8,6 +8,7 @@ import socket
 import time
 from collections.abc import Sequence
 
+from ..counting import counted
 from ..errors import OperationalError
 from ..frames import BROKEN, GREETING, HELLO
 from .clients import Client, user_of
@@ -83,7 +84,7 @@ class Coming:
     def refusal(self, made: socket.socket, listener: Listener, count: int) -> str:
         """Why a client isn't taken."""
         if count >= self.most:
-            return f"there are {self.most} clients already"
+            return f"there {'is' if self.most == 1 else 'are'} {counted(self.most, 'client')} already"
         if listener.place.mode == OWNER_ONLY and user_of(made) != os.geteuid():
             return "only the server's owner may connect"
         return ""
