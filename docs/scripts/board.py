@@ -1,4 +1,5 @@
-"""A board of links: python3 board.py FILE page [CURSOR] | front | vote LINK VOTER | buy LINK BUYER PRICE | serve"""
+"""A board of links: python3 board.py FILE page [CURSOR] | front | vote LINK VOTER | withdraw LINK VOTER
+| buy LINK BUYER PRICE | serve"""
 
 import html
 import sys
@@ -27,6 +28,20 @@ def vote(board, link, voter):
             if error.number != "E503":  # another vote got this number
                 raise
     raise piql.OperationalError("too many votes at once")
+
+
+def withdraw(board, link, voter):
+    """Takes a vote back; whether there was one."""
+    vote = board.execute("SELECT number FROM votes WHERE link = ? AND voter = ?", (link, voter)).fetchone()
+    if vote is None:
+        return False
+    try:
+        with board.batch() as both:
+            both.execute("DELETE FROM votes WHERE link = ? AND number = ? IF voter = ?", (link, vote[0], voter))
+            both.execute("UPDATE links SET score ADD -1 WHERE id = ?", (link,))
+    except (piql.IntegrityError, piql.Changed):  # it was taken back meanwhile, and its number may be another's vote
+        return False
+    return True
 
 
 def buy(board, link, buyer, price):
@@ -78,6 +93,8 @@ def main(file, command, *words):
             print("newest:", *newest, "best:", *best, sep="\n")
         elif command == "vote":
             print(vote(board, int(words[0]), words[1]))
+        elif command == "withdraw":
+            print(withdraw(board, int(words[0]), words[1]))
         elif command == "buy":
             print(buy(board, int(words[0]), words[1], int(words[2])))
         elif command == "serve":

@@ -1,6 +1,6 @@
 """A cursor: executes statements and hands out the rows of the last one."""
 
-from collections.abc import Iterable, Iterator, Sequence
+from collections.abc import Iterable, Sequence
 from typing import TYPE_CHECKING, NamedTuple
 
 from .collecting import Reported
@@ -202,9 +202,14 @@ class Cursor(Reported):
         start, self._at = self._at, len(rows)
         return rows[start:]
 
-    def __iter__(self) -> Iterator[Row]:
-        while (row := self.fetchone()) is not None:
-            yield row
+    def __iter__(self) -> "Cursor":
+        return self
+
+    def __next__(self) -> Row:
+        row = self.fetchone()
+        if row is None:
+            raise StopIteration
+        return row
 
     def setinputsizes(self, sizes: Sequence[object]) -> None:
         """Does nothing."""

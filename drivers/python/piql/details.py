@@ -93,11 +93,6 @@ def of_reference(schema: Schema, _: list[Token], table: str, number: str) -> Det
     return Detail(f"It is ({listed(names)}) of {table}, which refers to {parent}.", table, names)
 
 
-def of_key(schema: Schema, _: list[Token], name: str) -> Detail:
-    """The table and its key."""
-    return Detail(table=name, key=schema.tables()[name].key)
-
-
 def of_limit(schema: Schema, _: list[Token], table: str, number: str, most: str) -> Detail:
     """The limit of this number."""
     names, _parent = columns_behind(schema.tables()[table], "CARDINALITY", "LIMIT")[int(number) - 1]
@@ -131,8 +126,6 @@ READERS: dict[str, Callable[..., Detail]] = {
     "E402": of_values,
     "E501": of_column,
     "E502": of_columns,
-    "E503": of_key,
-    "E504": of_key,
     "E505": of_reference,
     "E506": of_reference,
     "E507": of_limit,

@@ -1,5 +1,6 @@
 """Growing a schema: what a script defines and the store lacks is defined, and what differs is refused."""
 
+import contextlib
 import os
 import tempfile
 from collections.abc import Mapping
@@ -76,11 +77,11 @@ def define_each(scratch: Connection, script: str, source: str) -> list[Report]:
 
 
 def scratch_link(folder: str, program: str | os.PathLike[str] | None) -> Link:
-    """An empty store: a file of the folder, or one in memory where the program for files isn't there."""
-    try:
-        return FileLink(os.path.join(folder, "schema.db"), find_program("piql_file", program), 5.0)
-    except InterfaceError:
-        return MemoryLink(None)
+    """An empty store: one in memory, which waits for no disk, or a file where a program for files is given or alone."""
+    if program is None:
+        with contextlib.suppress(InterfaceError):
+            return MemoryLink(None)
+    return FileLink(os.path.join(folder, "schema.db"), find_program("piql_file", program), 5.0)
 
 
 def read_wanted(path: str | os.PathLike[str], program: str | os.PathLike[str] | None = None) -> list[Wanted]:

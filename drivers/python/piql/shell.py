@@ -42,6 +42,8 @@ SELECT for good under a name, and makes its index. RUN NAME then answers it, pag
 .define NAME   prepares the last SELECT
 .help       this               .quit       the end, as Ctrl-D"""
 NO_SELECT = "there is no SELECT yet; .define NAME prepares the last one"
+HAS_PARAMETERS = "a SELECT has no parameter: write the value in its place, or .define NAME, and RUN NAME with its values"
+NONE = "there are none"
 NO_NAME = ".define wants a name: letters, digits and _, the first no digit"
 FURTHER = "; .next has more"
 MAY_BE_FURTHER = "; a page of a SELECT that isn't prepared, .define NAME makes the further ones"
@@ -147,6 +149,8 @@ class Shell:
             statement = read_statement(text)
             if statement.kind is Kind.SELECT:
                 self.selected = statement
+                if statement.params:
+                    return HAS_PARAMETERS
             cursor = self.connection.execute(text, after=after)
         except Error as error:
             return told(error)
@@ -182,11 +186,11 @@ class Shell:
             return self.define(word.removeprefix(".define").strip().rstrip(";"))
         if word == ".tables":
             definitions = self.connection.refresh().definitions
-            return "\n".join(it.text for it in definitions if isinstance(it, (Table, Added)))
+            return "\n".join(it.text for it in definitions if isinstance(it, (Table, Added))) or NONE
         if word == ".counters":
-            return "\n".join(it.text for it in self.connection.refresh().counters().values())
+            return "\n".join(it.text for it in self.connection.refresh().counters().values()) or NONE
         if word == ".queries":
-            return "\n".join(it.text for it in self.connection.refresh().queries().values())
+            return "\n".join(it.text for it in self.connection.refresh().queries().values()) or NONE
         if word == ".indexes":
             return self.indexes()
         if word == ".bounds":

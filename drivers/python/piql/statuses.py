@@ -1,7 +1,7 @@
 """What each status of a run says, for whoever started it. With 0 and 1 the run went to its end."""
 
 MEANINGS = {
-    2: "the words are of no form; nothing was read or written",
+    2: "bad command line; nothing was read or written",
     3: "a read of the script failed; the statements that were read whole are made and reported",
     4: "a write of the reports failed; what is out is a first part of them",
     5: "a call of the store failed; the next opening makes the statement whole or not at all",

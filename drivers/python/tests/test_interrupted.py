@@ -240,7 +240,7 @@ class HostTest(unittest.TestCase):
 
     def test_before_a_builds_mark_nothing_is_there(self) -> None:
         self.assertEqual(self.interrupted(PREPARE, bytes([DEFINITIONS]), is_before=True), NOT_MADE)
-        self.assertEqual(self.said(".queries"), "\n")
+        self.assertEqual(self.said(".queries"), "there are none\n")
         self.said("SELECT x.a FROM t AS x WHERE x.b = 1 ORDER BY x.a LIMIT 3;")
         self.assertIn("query q: at most", self.said(".define q"))
 

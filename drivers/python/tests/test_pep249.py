@@ -10,7 +10,7 @@ DATETIME ROWID Date Time Timestamp DateFromTicks TimeFromTicks TimestampFromTick
 CONNECTION = """close commit rollback cursor Warning Error InterfaceError DatabaseError DataError OperationalError
 IntegrityError InternalError ProgrammingError NotSupportedError autocommit"""
 CURSOR = """description rowcount callproc close execute executemany fetchone fetchmany fetchall arraysize setinputsizes
-setoutputsize rownumber connection lastrowid"""
+setoutputsize rownumber connection lastrowid __iter__ __next__"""
 # Of each exception the one that it has to be a kind of.
 PARENTS = [
     (piql.Warning, Exception),
@@ -90,7 +90,9 @@ class CursorTest(StoreCase):
         self.assertEqual(cursor.fetchmany(9), [(3,)])
         self.assertEqual((cursor.fetchone(), cursor.fetchmany(), cursor.fetchall()), (None, [], []))
         cursor.execute("SELECT a FROM t ORDER BY a LIMIT 5")
-        self.assertEqual(list(cursor), [(1,), (2,), (3,)])
+        self.assertEqual(next(cursor), (1,))
+        self.assertEqual(list(cursor), [(2,), (3,)])
+        self.assertRaises(StopIteration, next, cursor)
 
     def test_description(self) -> None:
         select = "SELECT x.a, x.b, y.a, x.c FROM t AS x JOIN t AS y WHERE x.a = ? AND y.a = 1"

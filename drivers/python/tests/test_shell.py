@@ -99,6 +99,12 @@ class ShellTest(StoreCase):
             self.assertIn(".define wants a name", self.said(f".define{name}"))
         self.assertIn("E201 by_b", self.said("SELECT a FROM t LIMIT 1;", ".define by_b"))
 
+    def test_a_select_with_a_parameter(self) -> None:
+        said = self.said("SELECT x.b FROM t AS x WHERE x.a = [1: id];", ".define by_a", "RUN by_a (13);")
+        self.assertIn("a SELECT has no parameter: write the value in its place, or .define NAME", said)
+        self.assertIn("query by_a: at most 1 operation, 1 entry\n", said)
+        self.assertIn("b\n-\nx\n1 row\n", said)
+
     def test_what_is_no_refusal(self) -> None:
         self.assertEqual(self.said("RUN page (?);"), "1 value wanted, 0 given\n")
         self.assertEqual(self.said("RUN page ('\udcff');"), "this line isn't UTF-8, and is left out\n")

@@ -231,7 +231,7 @@ class VerifyTest(unittest.TestCase):
         out, tell = io.StringIO(), io.StringIO()
         done = verify(str(path), out, tell)
         lines = out.getvalue().splitlines()
-        self.assertEqual(lines.pop(), f"{done.pairs} pairs, {counted(done.differences, 'difference')}")
+        self.assertEqual(lines.pop(), f"{counted(done.pairs, 'pair')}, {counted(done.differences, 'difference')}")
         self.noted = tell.getvalue()
         return {name: what for name, _, what in (line.partition(" ") for line in lines)}, done
 

@@ -1,4 +1,4 @@
-"""Statements to a database of PostgreSQL, each with a limit of time, over psycopg2 (Debian's python3-psycopg2)."""
+"""Statements to a database of PostgreSQL, each with a limit of time, over psycopg2."""
 
 import math
 import os
@@ -16,7 +16,10 @@ if TYPE_CHECKING:
     import psycopg2.extensions
 
 Values = Mapping[str, object]
-NO_CLIENT = "stores in PostgreSQL are reached by psycopg2, which isn't installed: apt-get install python3-psycopg2"
+NO_CLIENT = (
+    "stores in PostgreSQL are reached by psycopg2, which isn't installed: pip install psycopg2-binary, or for Debian's own"
+    " Python apt-get install python3-psycopg2"
+)
 # A range is a walk along the index that ends at its limit, whatever the planner knows of the table.
 OFF = ("enable_seqscan", "enable_bitmapscan", "enable_sort", "enable_hashjoin", "enable_mergejoin", "jit")
 INCREMENTAL = "SELECT set_config(name, 'on', false) FROM pg_settings WHERE name = 'enable_incremental_sort'"
