@@ -74,7 +74,10 @@ def application(board):
 
     def answer(environ, start_response):
         query = urllib.parse.parse_qs(environ.get("QUERY_STRING", ""))
-        links, following = page(board, query.get("after", [None])[0])
+        try:
+            links, following = page(board, query.get("after", [None])[0])
+        except piql.DataError:  # E403: what a visitor has sent is no cursor of this page, so the first one is shown
+            links, following = page(board)
         lines = [f"<li>{html.escape(title)} by {html.escape(owner)}: {score}" for _, title, owner, score in links]
         more = f'<a href="?after={following}">older links</a>' if following else ""
         start_response("200 OK", [("Content-Type", "text/html; charset=utf-8")])
