@@ -119,7 +119,8 @@ class LeftTest(unittest.TestCase):
     def interrupt_next(self, store: FencedStore, is_sent: bool) -> Callable[[], object]:
         """Has the next write be interrupted, before it is sent or behind its answer; what sends it then, or again."""
         client, name = store.client, "once" if isinstance(store, EtcdStore) else "run"  # type: ignore[attr-defined]
-        send, words = getattr(client, name), []
+        send = getattr(client, name)
+        words: list[object] = []
 
         def interrupted(*given: object) -> NoReturn:
             words.extend(given)
