@@ -189,7 +189,8 @@ def main(words: list[str] | None = None) -> int:
     given = parser().parse_args(words)
     try:
         return int(given.run(given))
-    except KeyboardInterrupt:
+    except KeyboardInterrupt as interrupt:
+        print("\n".join(["", *getattr(interrupt, "__notes__", [])]), file=sys.stderr)
         return 130
     except (Error, BoundsRose, OSError) as error:
         print("\n".join([f"piql: {error}", *getattr(error, "__notes__", [])]), file=sys.stderr)

@@ -11,6 +11,7 @@ from .connection import Connection
 from .counting import counted
 from .engine import find_program
 from .errors import Error, InterfaceError, OperationalError, ProgrammingError, refused
+from .interrupted import what_stands
 from .links import FileLink, Link, MemoryLink
 from .plain import plain_path
 from .refusals import refusal_of
@@ -166,7 +167,8 @@ def migrate(
     """Defines what the schema at the path has and the store lacks; the names.
 
     Before the first is made, what can't be is refused, and `out` gets the bounds with the rows that indexes go over.
-    The program is that of a store in which all is tried.
+    Where one is refused or interrupted, the exception's notes say what was made. The program is that of a store in
+    which all is tried.
     """
     missing, rows = looked_at(connection, read_wanted(path, program), program)
     if out is not None:
@@ -175,8 +177,11 @@ def migrate(
     for place, it in enumerate(missing):
         try:
             connection.execute(it.definition.text)
-        except Error as error:
+        except (Error, KeyboardInterrupt) as error:
             made = ", ".join(it.name for it in missing[:place]) or "nothing"
             error.add_note(f"in {os.fspath(path)}, at {it.name}; made before it: {made}")
+            if isinstance(error, KeyboardInterrupt):
+                kind = read_statement(it.definition.text).kind
+                error.add_note(f"interrupted: {what_stands(connection, kind, it.definition.text)}")
             raise
     return [it.name for it in missing]

@@ -29,6 +29,7 @@ WRITTEN = "interrupted: this statement was made whole or not at all; read its ro
 AT_SERVER = "interrupted: the server makes this statement all the same, if it had it whole; ask for it to see\n"
 FIRST = "the index of q isn't filled yet: the next statement fills it first, from the beginning\n"
 UNFILLED = f"interrupted: PREPARE q stands; {FIRST}"
+UNFILLED_WHOLE = UNFILLED.rstrip("\n")
 UNKNOWN = (
     "interrupted: this statement was made whole or not at all, and the store can't be looked at now"
     " (the store: no member answers)\n"
@@ -251,6 +252,17 @@ class HostTest(unittest.TestCase):
                 self.assertEqual(self.interrupted(PREPARE, at), UNFILLED)
                 self.assertIn("PREPARE q", self.said(".queries"))
                 self.assertIn("\n2 rows\n", self.said("RUN q (1);"))
+
+    def test_a_schema_that_is_grown(self) -> None:
+        path = new_folder(self) / "schema.piql"
+        path.write_text(f"{TABLE};\nCREATE TABLE u (a INT, PRIMARY KEY (a));\n{PREPARE}")
+        self.store.at = bytes([ENTRIES])
+        with self.assertRaises(KeyboardInterrupt) as caught:
+            piql.migrate(self.shell.connection, path)
+        self.store.at = b"none"
+        made = f"in {path}, at q; made before it: u"
+        self.assertEqual(caught.exception.__notes__, [made, UNFILLED_WHOLE])
+        self.assertEqual(piql.migrate(self.shell.connection, path), [])
 
     def test_a_store_that_cant_be_looked_at(self) -> None:
         with mock.patch.object(self.store, "begin", side_effect=Fault("no member answers")):
