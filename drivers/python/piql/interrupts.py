@@ -41,7 +41,7 @@ def is_of_call(error: OSError) -> bool:
     return error.__traceback__ is not None and error.__traceback__.tb_next is None
 
 
-class Held:
+class HeldBack:
     """Whether an interrupt came that was held back."""
 
     def __init__(self) -> None:
@@ -49,9 +49,9 @@ class Held:
 
 
 @contextlib.contextmanager
-def held_back() -> Iterator[Held]:
+def held_back() -> Iterator[HeldBack]:
     """Has an interrupt wait for the end of the block, where it is told by `is_interrupted` and raises nothing."""
-    held = Held()
+    held = HeldBack()
     before = signal.pthread_sigmask(signal.SIG_BLOCK, {signal.SIGINT})
     try:
         yield held

@@ -20,7 +20,7 @@ from .errors import Error
 from .hosts.passwords import shown
 from .hosts.urls import is_url
 from .interrupted import what_stands
-from .interrupts import Held, held_back
+from .interrupts import HeldBack, held_back
 from .links import MemoryLink
 from .prompt import prompt
 from .reports import Work
@@ -42,7 +42,7 @@ SELECT for good under a name, and makes its index. RUN NAME then answers it, pag
 .define NAME   prepares the last SELECT
 .help       this               .quit       the end, as Ctrl-D"""
 NO_SELECT = "there is no SELECT yet; .define NAME prepares the last one"
-HAS_PARAMETERS = "a SELECT has no parameter: write the value in its place, or .define NAME, and RUN NAME with its values"
+HAS_PARAMETERS = "a SELECT has no parameter: write the value in its place, or .define NAME and RUN NAME with its values"
 NONE = "there are none"
 NO_NAME = ".define wants a name: letters, digits and _, the first no digit"
 FURTHER = "; .next has more"
@@ -121,7 +121,7 @@ class Shell:
 
     def tell_statement(self, text: str) -> bool:
         """Prints what a statement is answered; whether it came to its end without an interrupt."""
-        held = Held()
+        held = HeldBack()
         try:
             with self.whole() as held:
                 print(self.execute(text))
@@ -130,9 +130,9 @@ class Shell:
             return False
         return not held.is_interrupted
 
-    def whole(self) -> contextlib.AbstractContextManager[Held]:
+    def whole(self) -> contextlib.AbstractContextManager[HeldBack]:
         """What an interrupt waits for: over a store in memory a statement's end, since its rows would be lost."""
-        return held_back() if isinstance(self.connection.link(), MemoryLink) else contextlib.nullcontext(Held())
+        return held_back() if isinstance(self.connection.link(), MemoryLink) else contextlib.nullcontext(HeldBack())
 
     def tell_interrupt(self, text: str) -> None:
         """Prints what stands of a statement that was interrupted."""

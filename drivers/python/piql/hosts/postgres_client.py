@@ -17,8 +17,8 @@ if TYPE_CHECKING:
 
 Values = Mapping[str, object]
 NO_CLIENT = (
-    "stores in PostgreSQL are reached by psycopg2, which isn't installed: pip install psycopg2-binary, or for Debian's own"
-    " Python apt-get install python3-psycopg2"
+    "stores in PostgreSQL are reached by psycopg2, which isn't installed: pip install psycopg2-binary, or for Debian's"
+    " own Python apt-get install python3-psycopg2"
 )
 # A range is a walk along the index that ends at its limit, whatever the planner knows of the table.
 OFF = ("enable_seqscan", "enable_bitmapscan", "enable_sort", "enable_hashjoin", "enable_mergejoin", "jit")
