@@ -1,6 +1,8 @@
 """Telling what a script did: each refusal at its place, with the cause and the way out, and each answer as a table."""
 
 import argparse
+import contextlib
+import os
 import re
 import sys
 import textwrap
@@ -8,10 +10,12 @@ from typing import NamedTuple
 
 from piql.counting import counted
 from piql.details import detail_of
+from piql.errors import Error
 from piql.refusals import Refusal, refusal_of, with_causes
 from piql.reports import DamageLine, DefinitionLine, IndexLine, OpeningLine, QueryLine, Report, read_reports
 from piql.schema import Schema
 from piql.scripts import Piece, Token, character_at, pieces, place_at, tokens
+from piql.stored import opened, read_stored_schema
 from piql.tables import table
 from piql.writes import IN_BATCH, write_of
 from tools.kept import NotBuilt
@@ -163,9 +167,9 @@ def tell_lines(report: Report) -> None:
             print(f"  {line.number}: {line.text}")
 
 
-def tell_all(script: Script, written: str) -> int:
+def tell_all(script: Script, written: str, shapes: Shapes) -> int:
     """Tells what a run wrote; how many statements were refused."""
-    shapes, refused, count = Shapes(), 0, 0
+    refused = count = 0
     for report in read_reports(written):
         if isinstance(report, DamageLine):
             print(f"  the store is damaged at the key {report.key}")
@@ -182,6 +186,16 @@ def tell_all(script: Script, written: str) -> int:
         tell_lines(report)
     print(f"{counted(count, 'statement')}, {refused} refused")
     return refused
+
+
+def shapes_of(path: str | None) -> Shapes:
+    """What a file has before the script is run, as far as it can be read."""
+    shapes = Shapes()
+    if path and os.path.exists(path):
+        with contextlib.suppress(Error), opened(path) as file:
+            for it in read_stored_schema(file).definitions:
+                shapes.add(it.text, [])
+    return shapes
 
 
 def run_script(given: argparse.Namespace) -> tuple[str, int]:
@@ -202,10 +216,11 @@ def read_given(words: list[str]) -> argparse.Namespace:
 
 def main(words: list[str]) -> int:
     given = read_given(words)
+    shapes = shapes_of(given.file)
     try:
         text, status = written_of(given.script, given.report, lambda: run_script(given))
     except (Wrong, NotBuilt, OSError) as error:
         tell(NAME, str(error))
         return error.status if isinstance(error, Wrong) else NO_PROGRAM
-    refused = tell_all(read_script(given.script), text)
+    refused = tell_all(read_script(given.script), text, shapes)
     return status if status else REFUSED if refused else 0

@@ -2,6 +2,7 @@
 
 import pathlib
 import re
+import sqlite3
 import subprocess
 import sys
 import unittest
@@ -130,6 +131,7 @@ NAME:12: statement 16 is refused: E102
 
 16 statements, 4 refused
 """
+UNBOUNDED = "1 refused E304 x bound 0 0 used 0 0"
 HEAD = re.compile(
     r"^\S+:(\d+): statement \d+ is refused: (E\d\d\d)[^\n]*\n *\d+ \| ([^\n]*)\n {7}\| ( *)\^\n", re.MULTILINE
 )
@@ -170,6 +172,26 @@ class ReportTest(unittest.TestCase):
     def test_no_script_is_told(self) -> None:
         run = run_tell("nowhere.piql")
         self.assertEqual((run.returncode, run.stderr), (2, "tell: there is no script nowhere.piql\n"))
+
+
+class FileTest(unittest.TestCase):
+    """Over a file, whose definitions are known before the script is run."""
+
+    def test_why_a_query_of_its_tables_has_no_bound(self) -> None:
+        copy = Copy(self)
+        copy.put_script("piql_file", f"cat > /dev/null; echo '{UNBOUNDED}'; exit 1\n")
+        path = copy.top / "a.db"
+        file = sqlite3.connect(path)
+        file.execute("CREATE TABLE kv(k BLOB PRIMARY KEY, v BLOB NOT NULL)")
+        file.execute("INSERT INTO kv VALUES (?, ?)", (b"\1\0\1", b"\1\0CREATE TABLE t (a INT, b INT, PRIMARY KEY (a));"))
+        file.commit()
+        file.close()
+        (copy.top / "a.piql").write_text("EXPLAIN SELECT x.a FROM t AS x WHERE x.b = 1;")
+        told = copy.run("tell", "--file", "a.db", "a.piql").stdout.decode()
+        self.assertIn("its equalities fix b, its key is (a), and it has no CARDINALITY LIMIT.", " ".join(told.split()))
+        path.write_bytes(b"no file of SQLite's")
+        told = copy.run("tell", "--file", "a.db", "a.piql").stdout.decode()
+        self.assertIn("x is the first relation without a bound of its own", told)
 
 
 @unittest.skipUnless(PIQL, "crates/piql is not built")
