@@ -25,9 +25,9 @@ from typing import NamedTuple
 
 sys.dont_write_bytecode = True
 TOP = pathlib.Path(__file__).resolve().parents[2]
-sys.path[:0] = [str(TOP / "drivers/python"), str(pathlib.Path(__file__).resolve().parent)]
+sys.path[:0] = [str(TOP / "drivers/python"), str(TOP / "trials"), str(TOP / "trials/counters")]
 
-from pairs import counted_pairs, told_pairs  # noqa: E402 - the modules stand beside
+from pairs import counted_pairs, told_pairs  # noqa: E402 - the modules stand beside, or in trials/
 from piql.hosts import MemoryStore  # noqa: E402
 from piql.reports import OpeningLine, Report, read_reports  # noqa: E402
 from piql.values import quoted  # noqa: E402

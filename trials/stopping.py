@@ -3,9 +3,9 @@
 import io
 from typing import NamedTuple
 
-from piql.hosts import Host, MemoryStore, Op, run
+from piql.hosts import Backend, Host, MemoryStore, Op, run
 from piql.hosts.rounds import HELLO
-from piql.hosts.wire import FAILURE, NUMBER, SINGLE, Request, answer
+from piql.hosts.wire import FAILURE, NUMBER, SINGLE, Request, Write, answer
 
 
 class Stop(NamedTuple):
@@ -37,6 +37,13 @@ class Stopping(Host):
         return FAILURE if fails else told
 
 
+class StoppingEach(Stopping):
+    """The same, but each write is made as it comes, and not with those of its statement."""
+
+    def written(self, backend: Backend, write: Write) -> bool:
+        return backend.write(*write)
+
+
 class Ran(NamedTuple):
     """How a run ended: its status, what it wrote, its calls, and how many of them were writes that were made."""
 
@@ -46,9 +53,10 @@ class Ran(NamedTuple):
     writes: int
 
 
-def ran(engine: str, store: MemoryStore, script: str, stop: Stop | None = None) -> Ran:
-    """Runs a script over a store."""
-    host, told = Stopping(store, stop), io.BytesIO()
+def ran(engine: str, store: MemoryStore, script: str, stop: Stop | None = None, at_once: bool = True) -> Ran:
+    """Runs a script over a store. A statement's writes are made at once by the last of them, or each as it comes."""
+    host = Stopping(store, stop) if at_once else StoppingEach(store, stop)
+    told = io.BytesIO()
     status = run(engine, host, io.BytesIO(script.encode()).read, told.write)
     return Ran(status, told.getvalue().decode(), host.asked, host.writes)
 
