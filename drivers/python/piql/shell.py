@@ -16,19 +16,21 @@ from typing import NoReturn
 from .connection import SHOW, Connection
 from .cursor import SHOWN, Cursor
 from .engine import find_program
-from .errors import Error
+from .errors import Error, batch_head
 from .hosts.passwords import shown
 from .hosts.urls import is_url
 from .interrupted import what_stands
 from .interrupts import HeldBack, held_back
 from .links import MemoryLink
 from .prompt import prompt
+from .refusals import Refusal
 from .reports import Work
 from .schema import Added, Table
-from .scripts import NAME, Place, pieces
+from .scripts import NAME, Place, pieces, place_at, tokens
 from .server.figures import DEFINITIONS
 from .statements import Kind, Sent, Statement, read_statement
 from .tables import table
+from .writes import write_of
 
 HELP = """\
 A statement ends with ; and may go over several lines. Ctrl-C leaves one that isn't whole. It ends one that is being
@@ -69,9 +71,12 @@ def underlined(statement: str, place: Place) -> str:
     return f"  {line}\n  {indent}^"
 
 
-def plain(text: str) -> str:
-    """A text without the marks of the document that it is from."""
-    return text.replace("`", "")
+def marked(refusal: Refusal) -> Place | None:
+    """Where a statement spells nothing, or where the write of a batch begins that is refused."""
+    if refusal.place is not None or refusal.number_in_batch is None:
+        return refusal.place
+    write = write_of(tokens(refusal.statement), refusal.number_in_batch)
+    return place_at(refusal.statement, write[0].start) if write else None
 
 
 def told(error: Error) -> str:
@@ -79,10 +84,11 @@ def told(error: Error) -> str:
     refusal = error.refusal
     if refusal is None:
         return str(error)
-    head = " ".join([refusal.number, *refusal.fields.values()])
-    lines = [plain(f"{head}: {refusal.headline} {refusal.detail}").rstrip()]
-    if refusal.place is not None:
-        lines.append(underlined(refusal.statement, refusal.place))
+    head = " ".join([*batch_head(refusal), refusal.number, *refusal.fields.values()])
+    lines = [f"{head}: {refusal.headline} {refusal.detail}".rstrip()]
+    place = marked(refusal)
+    if place is not None:
+        lines.append(underlined(refusal.statement, place))
     if refusal.way_out:
         lines.append(plain(f"way out: {refusal.way_out}"))
     return "\n".join(lines)

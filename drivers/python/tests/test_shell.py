@@ -38,8 +38,8 @@ class TableTest(unittest.TestCase):
         self.assertEqual(underlined("SELECT a\n\tFROM FROM t", Place(2, 7)), "  \tFROM FROM t\n  \t     ^")
 
 
-class ShellTest(StoreCase):
-    """A prompt's lines."""
+class ShellCase(StoreCase):
+    """A prompt over a store."""
 
     script = SCRIPT
 
@@ -51,6 +51,10 @@ class ShellTest(StoreCase):
                 rest = shell.line(rest, line)
         self.assertEqual(rest, "")
         return out.getvalue()
+
+
+class ShellTest(ShellCase):
+    """A prompt's lines."""
 
     def test_an_answer(self) -> None:
         numbers = "at most 1 operation, 2 entries; used 1, 2\n"
@@ -113,6 +117,55 @@ class ShellTest(StoreCase):
         said = self.said("HELLO WORLD;")
         self.assertIn("LANGUAGE.md has the form of each", said)
         self.assertNotIn("](", said)
+
+
+class BatchTest(ShellCase):
+    """Several writes as one, at a prompt."""
+
+    def test_over_several_lines(self) -> None:
+        lines = (
+            "BATCH",
+            "  INSERT INTO t VALUES (20, 'it''s; one'),",
+            "  -- the next; one",
+            "  INSERT INTO t VALUES (21, NULL),",
+            "  UPDATE t SET b = 'y' WHERE a = 20 IF b = 'it''s; one',",
+            "  DELETE FROM t WHERE a = 21;",
+        )
+        self.assertEqual(self.said(*lines), "ok\nat most 10 operations, 4 entries; used 6, 0\n")
+        self.assertIn("b\n-\ny\n1 row\n", self.said("SELECT x.b FROM t AS x WHERE x.a = 20;"))
+        self.assertIn("0 rows", self.said("SELECT x.b FROM t AS x WHERE x.a = 21;"))
+        self.said("DELETE FROM t WHERE a = 20;")
+
+    def test_the_mark_is_under_the_refused_write(self) -> None:
+        first = "BATCH INSERT INTO t VALUES (30, 'é'),"
+        for lines, head, marked, indent in (
+            (("BATCH DELETE FROM t WHERE a = 99, DELETE FROM t WHERE a = 7;",), "E513 1 E504 t: ", 0, " " * 6),
+            ((f"{first} DELETE FROM t WHERE a = 99;",), "E513 2 E504 t: ", 0, " " * 38),
+            ((first, "\tUPDATE t", "SET a = 1 WHERE a = 7;"), "E513 2 E502 t: ", 1, "\t"),
+            (("BATCH", "INSERT INTO t VALUES ('x', 'x'),", "DELETE FROM t WHERE a = 7;"), "E513 1 E501 t a: ", 1, ""),
+            # Where the tokens spell nothing it is under the token, before which are 62 bytes and 40.
+            ((first, " DELETE FROM t WHERE a IS 7;"), "E104 62: ", 1, " " * 23),
+            ((first, " RUN page;"), "E104 40: ", 1, " "),
+        ):
+            with self.subTest(lines):
+                said = self.said(*lines)
+                self.assertTrue(said.startswith(head), said)
+                self.assertIn(f"\n  {lines[marked]}\n  {indent}^\nway out: ", said)
+        self.assertIn("0 rows", self.said("SELECT x.b FROM t AS x WHERE x.a = 30;"))
+
+    def test_a_condition_is_told_without_its_value(self) -> None:
+        said = self.said("BATCH DELETE FROM t WHERE a = 13,", "DELETE FROM t WHERE a = 7 IF a = 7 AND b = 'secret';")
+        self.assertTrue(said.startswith("E513 2 E511 t 2: the row is another than was read. Condition 2 "), said)
+        self.assertIn("doesn't hold of it: b = ?.\n", said)
+
+    def test_it_is_no_select(self) -> None:
+        batch = "BATCH INSERT INTO t VALUES (40, 'z'), DELETE FROM t WHERE a = 13;"
+        said = self.said("SELECT x.b FROM t AS x WHERE x.a = 40;", batch, ".define of_batch", "RUN of_batch;")
+        self.assertIn("query of_batch: at most 1 operation, 1 entry\n", said)
+        self.assertIn("b\n-\nz\n1 row\n", said)
+        # What may be asked for next stays the page behind that of the last answer with pages.
+        batch = "BATCH DELETE FROM t WHERE a = 40, INSERT INTO t VALUES (13, 'x');"
+        self.assertIn("13 | x\n1 row\n", self.said("RUN page;", batch, ".next"))
 
 
 class PromptTest(unittest.TestCase):
