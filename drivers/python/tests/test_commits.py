@@ -7,8 +7,9 @@ from collections.abc import Sequence
 
 from clusters import stores
 from helpers import built, new_folder
+from piql.changes import read_changes
 from piql.connection import Connection
-from piql.errors import OperationalError
+from piql.errors import Changed, IntegrityError, OperationalError
 from piql.hosts import Backend, Fault, Guard, Host, HostLink, MemoryStore, Op, SqliteStore
 from piql.hosts.backend import INTENT, Change
 from piql.hosts.wire import FAILURE, Request, answer, sized
@@ -224,6 +225,136 @@ class RefusedTest(unittest.TestCase):
         self.connection.execute("INSERT INTO t VALUES (?, ?)", (2, "other"))
         self.connection.execute("DELETE FROM t WHERE id = ?", (1,))
         self.assertEqual((self.rows("short"), self.rows("other")), ([], [(2,)]))
+
+
+BATCHES = """CREATE TABLE g (a INT, b INT, PRIMARY KEY (a, b), CARDINALITY LIMIT 2 (b));
+CREATE COUNTER of_b OF g (b);
+CREATE TABLE n (a INT, PRIMARY KEY (a));
+"""
+INSERT, DELETE = "INSERT INTO g VALUES (?, ?)", "DELETE FROM g WHERE a = ? AND b = ?"
+# What a batch changes whose writes insert (1, 5) and (2, 5) and delete (1, 5): rows, entries, and the group's number.
+ONE, TWO = (bytes.fromhex(f"10800000000000000{number}") for number in (1, 2))
+FIVE = bytes.fromhex("108000000000000005")
+CHANGES = {
+    b"\2\1" + ONE + FIVE: None,
+    b"\3\1\1" + FIVE + ONE: None,
+    b"\2\1" + TWO + FIVE: bytes.fromhex("0200000000000000020000000000000005"),
+    b"\3\1\1" + FIVE + TWO: b"",
+    b"\5\0\2" + FIVE: (1).to_bytes(8),
+}
+
+
+class Breaking(SqliteStore):
+    """A file that fails at one of its changes, and notes what is asked of it."""
+
+    def __init__(self, path: str) -> None:
+        super().__init__(path)
+        self.texts: list[str] = []
+        self.left: int | None = None
+
+    def run(self, text: str, *values: object) -> sqlite3.Cursor:
+        self.texts.append(text.split()[0])
+        return super().run(text, *values)
+
+    def changed(self, key: bytes, guard: Guard, held: bytes, new: bytes | None) -> sqlite3.Cursor:
+        if self.left is not None:
+            self.left -= 1
+            if self.left < 0:
+                raise Fault("it is gone")
+        return super().changed(key, guard, held, new)
+
+
+@unittest.skipUnless(PIQL_HOST, "crates/piql_host is not built")
+class BatchTest(unittest.TestCase):
+    """A batch is one commit of a store, and one transaction of a file: all of it is made or nothing."""
+
+    def open(self, store: Backend) -> Connection:
+        connection = Connection(HostLink("the store", store, PIQL_HOST))
+        self.addCleanup(connection.close)
+        connection.cursor().executescript(BATCHES)
+        return connection
+
+    def insert_two_and_delete_one(self, connection: Connection) -> int:
+        with connection.batch() as batch:
+            batch.execute(INSERT, (1, 5))
+            batch.execute(INSERT, (2, 5))
+            batch.execute(DELETE, (1, 5))
+        return batch.rowcount
+
+    def refuse(self, connection: Connection) -> None:
+        """Batches that are refused at their last write: by a key, a limit and a condition."""
+        for error, number, last, values in (
+            (IntegrityError, "E503", INSERT, (7, 9)),
+            (IntegrityError, "E507", INSERT, (8, 9)),
+            (Changed, "E511", f"{DELETE} IF b > 9", (7, 9)),
+        ):
+            with self.assertRaises(error) as caught, connection.batch() as batch:
+                for row in ((7, 9), (6, 9)):
+                    batch.execute(INSERT, row)
+                batch.execute(last, values)
+            self.assertEqual((caught.exception.number, caught.exception.place), (number, 3))
+
+    def rows(self, connection: Connection) -> tuple[list[tuple[object, ...]], object]:
+        """The rows of a group, and their number."""
+        found = connection.execute("SELECT g.a FROM g WHERE g.b = 5").fetchall()
+        return found, connection.execute("READ of_b (5)").fetchone()[0]
+
+    def test_one_commit_in_memory(self) -> None:
+        store = Recording()
+        connection = self.open(store)
+        store.seen.clear()
+        self.refuse(connection)
+        self.assertEqual(store.seen, [])
+        self.assertEqual(self.insert_two_and_delete_one(connection), 3)
+        ((intent, changes),) = store.seen
+        self.assertEqual((dict(changes), len(changes)), (CHANGES, len(CHANGES)))
+        self.assertEqual(read_changes(intent), CHANGES)
+        self.assertEqual(self.rows(connection), ([(2,)], 1))
+
+    def test_one_change_is_one_write(self) -> None:
+        store = Recording()
+        connection = self.open(store)
+        store.seen.clear()
+        connection.execute("BATCH INSERT INTO n VALUES (?), DELETE FROM n WHERE a = ?", (1, 1))
+        self.assertEqual(store.seen, [(b"\2\2" + ONE, Guard.ANY, None)])
+
+    def test_a_commit_that_fails_leaves_what_was_there(self) -> None:
+        store = Recording()
+        connection = self.open(store)
+        pairs = dict(store.values)
+        store.refuses = True
+        with self.assertRaisesRegex(OperationalError, "it is too much"):
+            self.insert_two_and_delete_one(connection)
+        self.assertEqual(store.values, pairs)
+        store.refuses = False
+        self.insert_two_and_delete_one(connection)
+        self.assertEqual(store.values, pairs | {key: new for key, new in CHANGES.items() if new is not None})
+
+    def test_one_transaction_of_a_file(self) -> None:
+        store = Breaking(str(new_folder(self) / "store.db"))
+        connection = self.open(store)
+        store.texts.clear()
+        self.refuse(connection)
+        self.assertEqual(set(store.texts), {"SELECT"})
+        store.texts.clear()
+        self.insert_two_and_delete_one(connection)
+        begin, end = store.texts.index("BEGIN"), store.texts.index("COMMIT")
+        # Before it are the questions alone, and in it one for an intent, and the changes.
+        self.assertEqual((set(store.texts[:begin]), store.texts[end:]), ({"SELECT"}, ["COMMIT"]))
+        self.assertEqual(sorted(store.texts[begin + 1 : end]), ["DELETE"] * 2 + ["INSERT"] * 3 + ["SELECT"])
+
+    def test_a_file_that_fails_at_each_change_of_it(self) -> None:
+        store = Breaking(str(new_folder(self) / "store.db"))
+        connection = self.open(store)
+        for left in range(len(CHANGES)):
+            store.left = left
+            with self.assertRaisesRegex(OperationalError, "it is gone") as caught:
+                self.insert_two_and_delete_one(connection)
+            self.assertEqual(caught.exception.status, 5)
+            store.left = None
+            self.assertEqual(self.rows(connection), ([], 0))
+        self.insert_two_and_delete_one(connection)
+        self.assertEqual(self.rows(connection), ([(2,)], 1))
 
 
 if __name__ == "__main__":
