@@ -62,6 +62,6 @@ def ran(engine: str, store: MemoryStore, script: str, stop: Stop | None = None, 
 
 
 def copy_of(store: MemoryStore) -> MemoryStore:
-    copied = MemoryStore()
+    copied = type(store)()
     copied.values, copied.keys = dict(store.values), list(store.keys)
     return copied
