@@ -9,10 +9,12 @@ from collections import Counter
 from common import Trial
 from piql.hosts import Backend, Host, MemoryStore, Op, serve
 from piql.hosts.urls import open_store
-from piql.hosts.wire import CALLS, FAILURE, Request, Write
+from piql.hosts.wire import FAILURE, ROUNDS, SINGLE, Request, Write
 
 TIMES, CLUSTER_TIMES = 1000, 60
-IDS, TOWNS, STATEMENTS, MOST_CALLS = 12, 3, 6, 30
+IDS, TOWNS, STATEMENTS, MOST_CALLS = 12, 3, 6, 40
+# How often a statement is a batch, and the most writes of one.
+BATCHES, BATCH = 0.4, 5
 SCHEMA = b"""CREATE TABLE u (id INT, town TEXT(9), note TEXT(9), PRIMARY KEY (id), CARDINALITY LIMIT 100 (town));
 PREPARE a AS SELECT * FROM u WHERE u.id >= 0 ORDER BY u.id LIMIT 100;
 PREPARE t AS SELECT * FROM u WHERE u.town = [1] ORDER BY u.id LIMIT 100;
@@ -41,7 +43,7 @@ class Killing(Host):
         return super().written(backend, write) if self.keeps else backend.write(*write)
 
     def answer(self, request: Request) -> bytes:
-        if self.left is None or request.op not in CALLS:
+        if self.left is None or request.op not in (*SINGLE, *ROUNDS):
             return super().answer(request)
         self.left -= 1
         if self.left >= 0:
@@ -69,22 +71,29 @@ def run(engine: str, host: Killing, script: bytes) -> tuple[int, bytes]:
         return process.wait(), bytes(told)
 
 
+def written(chance: random.Random, rows: Rows) -> str:
+    """A write that is accepted, and is made of the rows."""
+    number, town, note = chance.randrange(IDS), f"t{chance.randrange(TOWNS)}", f"n{chance.randrange(99)}"
+    is_there = number in rows
+    if is_there and chance.random() < 0.4:
+        del rows[number]
+        return f"DELETE FROM u WHERE id = {number}"
+    rows[number] = town, note
+    if is_there:
+        return f"UPDATE u SET town = '{town}', note = '{note}' WHERE id = {number}"
+    return f"INSERT INTO u VALUES ({number}, '{town}', '{note}')"
+
+
 def statements(chance: random.Random, rows: Rows) -> tuple[bytes, list[Rows]]:
-    """Statements that are all accepted, and the rows before the first, behind the first and so on."""
+    """Statements that are all accepted, some of them batches; the rows before the first, behind the first and so on."""
     made, states = [], [dict(rows)]
     for _ in range(STATEMENTS):
         after = dict(states[-1])
-        number, town, note = chance.randrange(IDS), f"t{chance.randrange(TOWNS)}", f"n{chance.randrange(99)}"
-        if number not in after:
-            made.append(f"INSERT INTO u VALUES ({number}, '{town}', '{note}');")
-        elif chance.random() < 0.4:
-            made.append(f"DELETE FROM u WHERE id = {number};")
+        if chance.random() < BATCHES:
+            writes = ", ".join(written(chance, after) for _ in range(chance.randint(1, BATCH)))
+            made.append(f"BATCH {writes};")
         else:
-            made.append(f"UPDATE u SET town = '{town}', note = '{note}' WHERE id = {number};")
-        if made[-1].startswith("DELETE"):
-            del after[number]
-        else:
-            after[number] = town, note
+            made.append(f"{written(chance, after)};")
         states.append(after)
     return "".join(made).encode(), states
 
