@@ -80,6 +80,26 @@ CASES = (
         MADE + "2 ok bound 2 1 used 2 0\n3 ok bound 1 0 used 1 0\n4 skipped\n6 skipped\n7 skipped\ntold 1 1 done\n",
         1,
     ),
+    Case(
+        "a condition is of the row that was read, and holds of the row that was made meanwhile or not",
+        2,
+        NUMBERS + "BATCH INSERT INTO m VALUES (1, 7); UPDATE m SET v = 8 WHERE id = 1 IF v = 7;"
+        "UPDATE m SET v = 9 WHERE id = 1 IF v = 7; BATCH INSERT INTO m VALUES (2, 7);"
+        "UPDATE m SET v = 9 WHERE id = 1 IF v = 8; UPDATE m SET v = 6 WHERE id = 1 IF v = 7;",
+        MADE + "2 ok bound 2 1 used 2 0\n5 skipped\n"
+        "told 2 1 conflict\ntold 1 1 done\ntold 2 2 refused E511 m 1\ntold 1 2 done\n",
+        1,
+    ),
+    Case(
+        "a batch and a SELECT are made before the first write, and skipped behind it",
+        1,
+        NUMBERS + "BATCH INSERT INTO m VALUES (1, 7), INSERT INTO m VALUES (2, 8); SELECT v FROM m WHERE id = 2;"
+        "INSERT INTO m VALUES (3, 9); SELECT v FROM m WHERE id = 3; BATCH DELETE FROM m WHERE id = 1;"
+        "UPDATE m SET v ADD 1 WHERE id = 1 IF v = 7; UPDATE m SET v ADD 9223372036854775807 WHERE id = 1;",
+        MADE + "2 ok bound 6 2 used 6 0\nrow 8\n3 ok rows 1 bound 1 1 used 1 1\n5 skipped\n6 skipped\n"
+        "told 1 1 done\ntold 1 2 done\ntold 1 3 refused E514 m v\n",
+        1,
+    ),
 )
 
 
