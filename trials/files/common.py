@@ -61,6 +61,14 @@ def answers(program: pathlib.Path, path: pathlib.Path, script: bytes) -> bytes:
     return ended.output
 
 
+def knows_batches(program: pathlib.Path, folder: pathlib.Path) -> bool:
+    """Whether the program's language has BATCH, as that of an earlier version hasn't."""
+    path = folder / "batches.db"
+    ended = run(program, [path, "run"], b"CREATE TABLE m (id INT, PRIMARY KEY (id)); BATCH INSERT INTO m VALUES (1);")
+    remove(path)
+    return ended.status == 0
+
+
 def reports(output: bytes) -> int:
     """How many reports were written whole."""
     whole, _, _ = output.rpartition(b"\n")

@@ -4,12 +4,14 @@ import pathlib
 import random
 from dataclasses import dataclass
 
-from common import Pairs, answers, remove, sound_pairs
+from common import Pairs, answers, knows_batches, remove, sound_pairs
 
 DEFINITIONS = [
     b"CREATE TABLE m (id INT, v INT, w INT, note TEXT(200), PRIMARY KEY (id), CARDINALITY LIMIT 100 (v));",
     b"CREATE COUNTER by_v OF m (v);",
 ]
+# How often a statement is a batch, and the most writes of one.
+BATCHES, BATCH = 0.3, 6
 # More rows than an index is filled with by one range.
 ROWS = 300
 PREPARE = b"PREPARE by_w AS SELECT m.w, m.id FROM m ORDER BY m.w LIMIT 10;"
@@ -46,10 +48,17 @@ def write(keys: set[int], chance: random.Random) -> bytes:
     return f"DELETE FROM m WHERE id = {key};".encode()
 
 
-def writes(number: int, chance: random.Random) -> list[bytes]:
-    """The definitions, and so many writes: each changes the row, entries and the numbers of groups."""
+def batch(keys: set[int], chance: random.Random) -> bytes:
+    """Several of these as one. A row may be written more than once."""
+    parts = (write(keys, chance).removesuffix(b";") for _ in range(chance.randint(1, BATCH)))
+    return b"BATCH " + b", ".join(parts) + b";"
+
+
+def writes(number: int, batches: float, chance: random.Random) -> list[bytes]:
+    """The definitions, and so many writes, or so often batches: each changes rows, entries and numbers of groups."""
     keys: set[int] = set()
-    return [*DEFINITIONS, *(write(keys, chance) for _ in range(number))]
+    made = (batch if chance.random() < batches else write for _ in range(number))
+    return [*DEFINITIONS, *(one(keys, chance) for one in made)]
 
 
 def states(program: pathlib.Path, file: pathlib.Path, statements: list[bytes]) -> list[Pairs]:
@@ -74,7 +83,8 @@ def case(name: str, program: pathlib.Path, folder: pathlib.Path, before: list[by
 def cases(program: pathlib.Path, folder: pathlib.Path, number: int, chance: random.Random) -> list[Case]:
     """Writes over a new file, and an index that is filled over rows that are there."""
     rows = [insert(key, chance) for key in range(ROWS)]
+    batches = BATCHES if knows_batches(program, folder) else 0.0
     return [
-        case("writes", program, folder, [], writes(number, chance)),
+        case("writes", program, folder, [], writes(number, batches, chance)),
         case("build", program, folder, [DEFINITIONS[0].replace(b"100", b"9999"), *rows], [PREPARE]),
     ]

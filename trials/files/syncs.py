@@ -1,17 +1,17 @@
-"""How many syncs a statement waits for, counted by strace."""
+"""How many syncs a statement waits for, counted by strace. A batch waits for one, however many writes it has."""
 
 import pathlib
 import re
 import shutil
 import subprocess
 
-from common import answers, fail, remove
+from common import answers, expect, fail, knows_batches, remove
 
 COUNTED = re.compile(r"^ *\S+ +\S+ +\S+ +(\d+) .*\bf(?:data)?sync$", re.MULTILINE)
 # How many statements of a kind are counted together.
 NUMBER = 20
-# Numbers of indexes of a table, and of rows over which one is filled.
-INDEXES, ROWS = (0, 1, 9), (600, 2000)
+# Numbers of indexes of a table, of rows over which one is filled, and of writes of a batch.
+INDEXES, ROWS, BATCHES = (0, 1, 9), (600, 2000), (1, 2, 256)
 
 
 def prepare(column: int) -> bytes:
@@ -42,6 +42,15 @@ def deletes(number: int) -> bytes:
     return "".join(f"DELETE FROM m WHERE id = {key};\n" for key in range(number)).encode()
 
 
+def batches(number: int, writes: int) -> bytes:
+    """Batches with so many INSERTs each into a table with an index, whose rows are like none before."""
+    found = []
+    for first in range(0, number * writes, writes):
+        rows = (f"INSERT INTO m VALUES ({key}, {key})" for key in range(first, first + writes))
+        found.append(f"BATCH {', '.join(rows)};\n")
+    return "".join(found).encode()
+
+
 def waited(program: pathlib.Path, path: pathlib.Path, script: bytes) -> int:
     """How many syncs a run over a file makes."""
     counts = path.with_suffix(".counts")
@@ -62,6 +71,14 @@ def waits(program: pathlib.Path, path: pathlib.Path, before: bytes, script: byte
     return waited(program, path, script) - ends
 
 
+def tell_batches(program: pathlib.Path, path: pathlib.Path) -> None:
+    """Counts the syncs of batches, of which each has one."""
+    for writes in BATCHES:
+        found = waits(program, path, table(1), batches(NUMBER, writes))
+        expect(f"the syncs of {NUMBER} batches of {writes} writes", NUMBER, found)
+    print(f"{program.name}: {NUMBER} syncs of {NUMBER} batches of {', '.join(map(str, BATCHES))} writes", flush=True)
+
+
 def tell(program: pathlib.Path, folder: pathlib.Path) -> None:
     """Prints the counts of a program."""
     if shutil.which("strace") is None:
@@ -80,3 +97,5 @@ def tell(program: pathlib.Path, folder: pathlib.Path) -> None:
     for number in ROWS:
         found = waits(program, path, table(0) + inserts(0, number, 1), prepare(0))
         print(f"{program.name}: {found} syncs of a PREPARE with an index over {number} rows", flush=True)
+    if knows_batches(program, folder):
+        tell_batches(program, path)
