@@ -1,8 +1,8 @@
 """Engines that read beside the one that writes, each answer compared with the plain evaluator's at the prefix it is of.
 
-The writer keeps the rows of the model behind each of its statements, with the revision that it was told. A reader keeps
-each answer with the revision at which it was pinned. So of each answer it is known which statements it has to know of,
-all of them whole and no later one, and trials/plain.py says what it has to be.
+The writer keeps the rows of the model behind each of its statements, of which some are batches, with the revision
+that it was told. A reader keeps each answer with the revision at which it was pinned. So of each answer it is known
+which statements it has to know of, all of them whole and no later one, and trials/plain.py says what it has to be.
 """
 
 import bisect
@@ -11,7 +11,6 @@ import random
 import threading
 import time
 from collections import Counter
-from collections.abc import Iterator
 from dataclasses import dataclass, field, replace
 
 from common import Trial
@@ -43,6 +42,8 @@ READERS, SECONDS = 3, 20
 DAMAGED = 6
 # One statement in so many makes an index over all rows, or a table.
 BUILDS = 40
+# How often one is a batch, and the most writes of it.
+BATCHES, BATCH = 0.5, 5
 
 
 def column(name: str) -> Column:
@@ -155,27 +156,27 @@ class Writer:
         elif number % BUILDS == 0:
             self.say(f"CREATE TABLE other{number} (a INT, PRIMARY KEY (a));")
             self.counts["tables made"] += 1
+        elif self.chance.random() < BATCHES:
+            self.say(f"BATCH {', '.join(self.change() for _ in range(self.chance.randint(2, BATCH)))};")
+            self.counts["batches"] += 1
         else:
-            for text in self.changes():
-                self.say(text + ";")
-                self.history.add(self.rows, self.link.revision)
-                self.counts["writes"] += 1
+            self.say(f"{self.change()};")
+            self.counts["writes"] += 1
         self.history.add(self.rows, self.link.revision)
 
-    def changes(self) -> Iterator[str]:
-        """A change of the model's rows, and the statement that makes it."""
+    def change(self) -> str:
+        """Changes the model's rows; the write that makes it."""
         table = self.chance.choice(["users", "subs", "subs", "thoughts", "thoughts"])
         if table == "users":
             row = self.chance.choice(self.rows["users"])
             row["city"] = self.chance.choice(CITIES)
-            yield f"UPDATE users SET city = {literal(row['city'])} WHERE name = {literal(row['name'])}"
-        elif table == "subs":
+            return f"UPDATE users SET city = {literal(row['city'])} WHERE name = {literal(row['name'])}"
+        if table == "subs":
             owner, target = self.chance.choice(NAMES), self.chance.choice(NAMES)
             key: Row = {"owner": owner, "target": target}
-            yield self.turn(table, key, {**key, "approved": self.chance.random() < 0.6}, "approved")
-        else:
-            key = {"owner": self.chance.choice(NAMES), "ts": self.chance.choice(list(TIMES))}
-            yield self.turn(table, key, {**key, "body": f"thought {self.chance.randrange(999)}"}, "body")
+            return self.turn(table, key, {**key, "approved": self.chance.random() < 0.6}, "approved")
+        key = {"owner": self.chance.choice(NAMES), "ts": self.chance.choice(list(TIMES))}
+        return self.turn(table, key, {**key, "body": f"thought {self.chance.randrange(999)}"}, "body")
 
     def turn(self, table: str, key: Row, new: Row, other: str) -> str:
         """Inserts a row, or updates or deletes the one with its key."""
