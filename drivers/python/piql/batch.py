@@ -7,13 +7,16 @@
 """
 
 import contextlib
+from bisect import bisect_right
+from collections.abc import Sequence
+from itertools import accumulate
 from typing import TYPE_CHECKING
 
 from .collecting import Collecting, Reported
 from .connection import asked_of
 from .errors import BatchFull, ProgrammingError
 from .scripts import STATEMENT_BYTES
-from .statements import Kind, Sent, batch_of, read_statement
+from .statements import BATCH_HEAD, BETWEEN, Sent, Statement, batch_of, read_statement, repeated
 from .writes import WRITES
 
 if TYPE_CHECKING:
@@ -21,8 +24,16 @@ if TYPE_CHECKING:
 
 NO_WRITE = "a batch takes an INSERT, an UPDATE or a DELETE, and no other statement"
 FULL = f"a batch has at most {WRITES} writes and {STATEMENT_BYTES:,} bytes. This write wasn't taken, and nothing was sent"
-# The bytes of a batch beside those of its writes: its word and its end, and what stands between two writes.
-ENDS, BETWEEN = len("BATCH ;"), len(", ")
+# The bytes of a batch for its writes, of which each has what stands between two with it.
+ROOM = STATEMENT_BYTES - len(BATCH_HEAD) - len(";") + len(BETWEEN)
+
+
+def batch_of_rows(write: Statement, rows: Sequence[str]) -> Sent:
+    """A batch of the same write for the first rows that it has room for, each in the one place of its write."""
+    own = len(write.template.encode()) - len("%s") + len(BETWEEN)
+    ends = accumulate(own + len(row.encode()) for row in rows[:WRITES])
+    count = bisect_right(list(ends), ROOM)
+    return Sent(repeated(write, count), "", tuple(rows[:count]))
 
 
 class Batch(Collecting, Reported):
@@ -40,7 +51,7 @@ class Batch(Collecting, Reported):
     def _forget(self) -> None:
         """No write is collected."""
         self._writes: list[Sent] = []
-        self._bytes = ENDS
+        self._bytes = 0
 
     def __len__(self) -> int:
         """How many writes are collected."""
@@ -52,9 +63,8 @@ class Batch(Collecting, Reported):
         if not statement.kind.is_write:
             raise ProgrammingError(NO_WRITE)
         sent = asked_of(statement, parameters, None)
-        # Without its own end, and with what stands between two.
-        size = len(sent.data()) - 1 + BETWEEN
-        if len(self._writes) == WRITES or self._bytes + size > STATEMENT_BYTES + BETWEEN:
+        size = len(sent.data()) - len(";") + len(BETWEEN)
+        if len(self._writes) == WRITES or self._bytes + size > ROOM:
             raise BatchFull(FULL)
         self._bytes += size
         self._writes.append(sent)

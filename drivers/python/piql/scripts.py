@@ -8,6 +8,8 @@ SCRIPT_BYTES = 16_777_216
 STATEMENT_BYTES = 65_536
 NAME_BYTES = 32
 LEAST, GREATEST = -(2**63), 2**63 - 1
+# A number of no more digits is one of 64 bits.
+SAFE_DIGITS = len(str(GREATEST)) - 1
 KEYWORDS = frozenset(
     "AFTER AND AS ASC BOOL BY CARDINALITY CREATE DELETE DESC EXPLAIN FALSE FOREIGN FROM INSERT INT INTO JOIN KEY LIMIT"
     " ORDER PAGINATE PREPARE PRIMARY REFERENCES RUN SELECT SET SHOW TABLE TEXT TRUE UPDATE VALUES WHERE".split()
@@ -85,12 +87,16 @@ def tokens(text: str) -> list[Token]:
 
 def plain_number(text: str) -> str:
     """A number without zeros before it. It may have more digits than Python makes a number of."""
+    if text[:1] > "0":
+        return text
     digits = text.removeprefix("-").lstrip("0") or "0"
     return f"-{digits}" if text.startswith("-") and digits != "0" else digits
 
 
 def is_of_64_bits(text: str) -> bool:
     """Whether a number is one that a column can have."""
+    if len(text) <= SAFE_DIGITS:
+        return True
     plain = plain_number(text)
     return len(plain) <= len(str(LEAST)) and LEAST <= int(plain) <= GREATEST
 

@@ -4,6 +4,7 @@ import hashlib
 from collections.abc import Sequence
 from enum import Enum
 from functools import lru_cache
+from itertools import chain
 from typing import NamedTuple
 
 from .errors import DatabaseError, DataError, ProgrammingError, refused
@@ -11,6 +12,9 @@ from .plain import plain_text
 from .refusals import refusal_of
 from .scripts import KEYWORDS, STATEMENT_BYTES, Token, character_at, place_at, plain_number, tokens
 from .writes import WORDS, begins_of
+
+# What a batch has before its writes, and between two of them.
+BATCH_HEAD, BETWEEN = "BATCH ", ", "
 
 
 class Kind(Enum):
@@ -62,6 +66,17 @@ class Statement(NamedTuple):
     widths: tuple[int, ...]
     pages: bool
     rows: int
+
+    def source(self) -> str:
+        """The text up to its end."""
+        return self.text[: len("".join(self.parts)) + sum(self.widths)]
+
+    def with_one_place(self) -> "Statement":
+        """The statement with one place for its values, and what stands between them in the text."""
+        first, *between, last = self.parts
+        width = len("".join(between)) + sum(self.widths)
+        parts = (first, last)
+        return self._replace(parts=parts, params=1, template=template_of(parts), widths=(width,))
 
     def numbered(self) -> tuple[str, ...]:
         """What stands for each `?` in the text of a query."""
@@ -228,15 +243,27 @@ def template_of(parts: tuple[str, ...]) -> str:
 
 def batch_of(writes: Sequence[Sent]) -> Sent:
     """Several writes as one statement, each with its values."""
-    parts = ["BATCH "]
-    for number, sent in enumerate(writes):
-        first, *rest = sent.statement.parts
-        parts[-1] += (", " if number else "") + first
-        parts += rest
-    cut, fillings = tuple(parts), tuple(it for sent in writes for it in sent.fillings)
-    params, widths = len(fillings), (1,) * len(fillings)
-    whole = Statement("?".join(cut), Kind.BATCH, "", cut, params, template_of(cut), widths, False, len(writes))
-    return Sent(whole, "", fillings)
+    fillings = tuple(chain.from_iterable(sent.fillings for sent in writes))
+    return Sent(batch_statement([sent.statement for sent in writes]), "", fillings)
+
+
+def batch_statement(writes: Sequence[Statement]) -> Statement:
+    """Several writes as one statement, with the places of all of them."""
+    parts, before = [BATCH_HEAD], ""
+    for write in writes:
+        parts[-1] += before + write.parts[0]
+        parts += write.parts[1:]
+        before = BETWEEN
+    text = BATCH_HEAD + BETWEEN.join(write.source() for write in writes)
+    widths = tuple(chain.from_iterable(write.widths for write in writes))
+    cut = tuple(parts)
+    return Statement(text, Kind.BATCH, "", cut, len(widths), template_of(cut), widths, False, len(writes))
+
+
+@lru_cache(maxsize=8)
+def repeated(write: Statement, count: int) -> Statement:
+    """A batch of one write so many times, each time with values of its own."""
+    return batch_statement([write] * count)
 
 
 @lru_cache(maxsize=1024)

@@ -67,7 +67,7 @@ def with_places(select: Statement) -> tuple[Statement, tuple[int, ...]] | None:
     places = parameters_of(tokens(select.text))
     if places is None or {place.number for place in places} != set(range(1, select.params + 1)):
         return None
-    parts = cut_at([(it.start, it.end) for it in places], select.text, len("".join(select.parts)) + sum(select.widths))
+    parts = cut_at([(it.start, it.end) for it in places], select.text, len(select.source()))
     widths = tuple(it.end - it.start for it in places)
     cut = select._replace(parts=parts, widths=widths, template=template_of(parts))
     return cut, tuple(it.number for it in places)

@@ -4,7 +4,9 @@ import unittest
 
 from helpers import StoreCase, piql
 from pipes import PipeCase
+from piql.batch import batch_of_rows
 from piql.scripts import STATEMENT_BYTES, tokens
+from piql.statements import read_statement
 from piql.writes import WRITES, begins_of, write_at
 
 INSERT = "INSERT INTO m VALUES (?, ?)"
@@ -114,6 +116,21 @@ class SentTest(PipeCase):
         batch.make()
         self.assertEqual(len(self.sent()), STATEMENT_BYTES)
 
+    def test_rows_with_room(self) -> None:
+        write = read_statement("INSERT INTO m VALUES (?, ?)").with_one_place()
+        text = "\u00e9" * 200
+        rows = [f"{i}, '{text}'" for i in range(100, 300)]
+        one, ends = len(", INSERT INTO m VALUES (100, '')") + 400, len("BATCH ;") - len(", ")
+        count = (STATEMENT_BYTES - ends) // one
+        sent = batch_of_rows(write, rows)
+        self.assertEqual((len(sent.data()), sent.fillings), (ends + count * one, tuple(rows[:count])))
+        # The last row fits up to the last byte, and then no more.
+        left = STATEMENT_BYTES - ends - count * one
+        for more, wanted in ((left, count), (left + 1, count - 1)):
+            longer = [*rows[: count - 1], f"100, '{text}{'x' * more}'", *rows]
+            self.assertEqual(len(batch_of_rows(write, longer).fillings), wanted)
+        self.assertEqual(len(batch_of_rows(write, ["1, 2"] * (WRITES + 1)).fillings), WRITES)
+        self.assertEqual(batch_of_rows(write, [f"1, '{'x' * STATEMENT_BYTES}'"]).fillings, ())
 
 
 class RefusedTest(unittest.TestCase):

@@ -3,16 +3,18 @@
 import io
 import os
 import re
-import signal
 import subprocess
 import sys
+import time
 import unittest
 from pathlib import Path
 
 from helpers import TOP, needs_file, new_folder, piql
-from piql.load import Loaded, Unreadable, load, records_of, value_of
+from piql.cells import RowReader, Unreadable, reader_of
+from piql.load import Loaded, load, records_of
 from piql.marks import Mark, mark_path
-from piql.schema import Column
+from piql.schema import Column, Table
+from piql.writes import WRITES
 
 FIRST = "CREATE TABLE users (name TEXT(20), town TEXT(30) NULL, PRIMARY KEY (name));"
 TOWN = "PREPARE town AS SELECT u.town FROM users AS u WHERE u.name = [1: who];"
@@ -34,33 +36,55 @@ NUMBERS = {
 }
 NO_NUMBERS = ["", "-", "+7", " 7", "7 ", "1_000", "7.0", "1e3", "0x7", "\u0667", "\uff17", "--7", "7\n"]
 LARGE_NUMBERS = ["9223372036854775808", "-9223372036854775809", "1" * 6000, "-" + "9" * 20]
+ENVIRONMENT = {**os.environ, "PYTHONPATH": str(TOP / "drivers/python")}
 # In none of what is told: a word that stands in cells alone.
 MARKED = "secretcell"
 SECRETS = "postgresql://site:hunter2@a,b/site?sslpassword=hunter2&lease=5"
 
 
+def kept(mark: Path) -> str:
+    """What a mark has; nothing where there is none yet, or none any more."""
+    try:
+        return mark.read_text()
+    except FileNotFoundError:
+        return ""
+
+
 class CellTest(unittest.TestCase):
-    """Cells as values of their columns."""
+    """Cells as an INSERT writes the values of their columns."""
 
     def test_numbers(self) -> None:
-        column = Column("n", "INT", None, False)
-        for text, wanted in NUMBERS.items():
-            self.assertEqual(value_of(column, text, ""), wanted, text[:30])
-        for text in NO_NUMBERS:
-            with self.subTest(text), self.assertRaisesRegex(Unreadable, "^column n: no decimal number$"):
-                value_of(column, text, "")
-        for text in LARGE_NUMBERS:
-            with self.subTest(text[:30]), self.assertRaisesRegex(Unreadable, "n: a number of more than 64 bits$"):
-                value_of(column, text, "")
+        read = reader_of(Column("n", "INT", None, False), "")
+        for cell, wanted in NUMBERS.items():
+            self.assertEqual(read(cell), str(wanted), cell[:30])
+        for cell in NO_NUMBERS:
+            with self.subTest(cell), self.assertRaisesRegex(Unreadable, "^no decimal number$"):
+                read(cell)
+        for cell in LARGE_NUMBERS:
+            with self.subTest(cell[:30]), self.assertRaisesRegex(Unreadable, "^a number of more than 64 bits$"):
+                read(cell)
 
     def test_other_cells(self) -> None:
-        truth, text = Column("b", "BOOL", None, True), Column("t", "TEXT", 9, False)
-        self.assertEqual([value_of(truth, it, "-") for it in ("TRUE", "f", "1", "-")], [True, False, True, None])
-        self.assertEqual(value_of(text, "-", "-"), "-")
-        for column, cell in ((truth, ""), (truth, MARKED), (text, "a\udcff")):
+        truth, text = reader_of(Column("b", "BOOL", None, True), "-"), reader_of(Column("t", "TEXT", 9, False), "-")
+        self.assertEqual([truth(cell) for cell in ("TRUE", "f", "1", "-")], ["TRUE", "FALSE", "TRUE", "NULL"])
+        self.assertEqual([text(cell) for cell in ("-", "", "it's", "1, 2")], ["'-'", "''", "'it''s'", "'1, 2'"])
+        for read, cell in ((truth, ""), (truth, MARKED), (text, f"{MARKED}\udcff")):
             with self.subTest(cell), self.assertRaises(Unreadable) as caught:
-                value_of(column, cell, "-")
+                read(cell)
             self.assertNotIn(MARKED, str(caught.exception))
+
+    def test_rows(self) -> None:
+        columns = (
+            Column("id", "INT", None, False),
+            Column("a", "TEXT", 20, True),
+            Column("b", "BOOL", None, True),
+            Column("c", "TEXT", 9, False, True, "it's"),
+        )
+        reader = RowReader(Table("t", columns, ("id",), ""), [" B ", "ID"], "-")
+        self.assertEqual(reader.rows([["t", "07"], ["-", "-8"]]), ["7, NULL, TRUE, 'it''s'", "-8, NULL, NULL, 'it''s'"])
+        for cells, why in ((["t"], "1 cells, and not 2"), (["x", "y"], "column b: "), (["t", ""], "column id: ")):
+            with self.subTest(why), self.assertRaisesRegex(Unreadable, f"^{why}"):
+                reader.rows([["t", "7"], cells, ["t", "8"]])
 
     def test_a_text_that_is_no_csv_is_told_with_its_line(self) -> None:
         found = records_of(io.StringIO('a,b\n"1\n",2\n"3"4,5\n', newline=""))
@@ -146,6 +170,7 @@ class LoadTest(unittest.TestCase):
     def setUp(self) -> None:
         self.folder = new_folder(self)
         self.path = self.folder / "store.db"
+        self.words = [sys.executable, "-m", "piql", "load", str(self.path), "users"]
 
     def open(self, *definitions: str) -> piql.Connection:
         """A connection, over a store with these definitions where it has none."""
@@ -161,15 +186,15 @@ class LoadTest(unittest.TestCase):
 
     def loaded(self, rows: bytes) -> subprocess.CompletedProcess[bytes]:
         """What the command does with a CSV file."""
-        words = [sys.executable, "-m", "piql", "load", str(self.path), "users"]
-        environment = {**os.environ, "PYTHONPATH": str(TOP / "drivers/python")}
-        return subprocess.run(words, input=rows, env=environment, capture_output=True)
+        return subprocess.run(self.words, input=rows, env=ENVIRONMENT, capture_output=True)
 
     def test_load(self) -> None:
         connection, tell, mark = self.migrated(FIRST, TOWN)
         self.assertEqual(load(connection, "users", io.StringIO(ROWS, newline=""), mark, tell), Loaded(6, 3))
         lines = tell.getvalue().splitlines()
-        for line, wanted in zip(lines, REFUSED_LINES):
+        told = [line for line in lines if line.startswith("record ")]
+        self.assertEqual(len(told), len(REFUSED_LINES))
+        for line, wanted in zip(told, REFUSED_LINES):
             self.assertTrue(line.startswith(wanted), line)
         self.assertEqual(lines[-1], "6 records, 3 refused")
         self.assertEqual(connection.execute("RUN town ('b,o\"b')").fetchall(), [(None,)])
@@ -249,21 +274,20 @@ class LoadTest(unittest.TestCase):
             self.assertFalse(mark.exists())
 
     def test_a_killed_load(self) -> None:
+        """It has made one batch, and waits for more records, when it is killed."""
         self.open(FIRST).close()
-        source = self.folder / "rows.csv"
-        # So many that it is killed long before its end: behind the first of four batches.
-        source.write_text("name,town\n" + "".join(f"n{i},x\n" for i in range(1000)))
-        words = [sys.executable, "-m", "piql", "load", str(self.path), "users"]
-        environment = {**os.environ, "PYTHONPATH": str(TOP / "drivers/python")}
-        mark = Path(f"{self.path}.users.load")
-        quiet = subprocess.DEVNULL
-        with source.open() as rows, subprocess.Popen(words, stdin=rows, stderr=quiet, env=environment) as first:
-            while first.poll() is None and text_of(mark) < f"{5:020}":
-                pass
-            first.send_signal(signal.SIGKILL)
-        with source.open() as rows:
-            second = subprocess.run(words, stdin=rows, env=environment, capture_output=True)
-        self.assertEqual((second.returncode, second.stderr.splitlines()[-1]), (0, b"1000 records, 0 refused"))
+        rows = b"name,town\n" + b"".join(b"n%d,x\n" % i for i in range(300))
+        mark, quiet = Path(f"{self.path}.users.load"), subprocess.DEVNULL
+        with subprocess.Popen(self.words, stdin=subprocess.PIPE, stderr=quiet, env=ENVIRONMENT) as first:
+            assert first.stdin is not None
+            first.stdin.write(rows)
+            first.stdin.flush()
+            while first.poll() is None and kept(mark)[:20] < f"{WRITES:020}":
+                time.sleep(0.01)
+            first.kill()
+        self.assertEqual(kept(mark)[:20], f"{WRITES:020}")
+        second = self.loaded(rows)
+        self.assertEqual((second.returncode, second.stderr.splitlines()[-1]), (0, b"300 records, 0 refused"))
 
     def test_what_can_not_be_read_is_refused_alone(self) -> None:
         self.open("CREATE TABLE users (name TEXT(20), n INT, ok BOOL, PRIMARY KEY (name));").close()

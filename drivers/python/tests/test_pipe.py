@@ -182,7 +182,7 @@ class EntryTest(PipeCase):
         connection.refresh = lambda: connection.schema()  # type: ignore[method-assign]
         source = io.StringIO(f'id,a\n1,"{ATTACK}"\n2,\n')
         load(connection, "t", source, self.folder / "mark", io.StringIO())
-        self.assertEqual(self.sent(), b"INSERT INTO t VALUES (1, %b);INSERT INTO t VALUES (2, NULL);" % written(ATTACK))
+        self.assertEqual(self.sent(), b"BATCH INSERT INTO t VALUES (1, %b), INSERT INTO t VALUES (2, NULL);" % written(ATTACK))
 
     def test_the_shell(self) -> None:
         shell = Shell(self.open())

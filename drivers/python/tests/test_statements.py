@@ -7,7 +7,7 @@ from helpers import TOP, piql
 from piql.errors import class_of, refused
 from piql.refusals import refusal_of, rules
 from piql.scripts import Place
-from piql.statements import Kind, Sent, read_statement
+from piql.statements import Kind, Sent, batch_of, read_statement
 from piql.values import quoted
 
 QUOTED = [
@@ -87,6 +87,16 @@ class StatementTest(unittest.TestCase):
         for text, wanted in places:
             with self.subTest(text):
                 self.assertEqual(sent.source_at(sent.data().index(text)), wanted)
+
+    def test_one_place_for_all_values(self) -> None:
+        statement = read_statement("INSERT INTO m VALUES (?, ?, ?); -- a").with_one_place()
+        sent = Sent(statement, "", ("1, 'a%s', NULL",))
+        self.assertEqual(sent.data(), b"INSERT INTO m VALUES (1, 'a%s', NULL);")
+        self.assertEqual([sent.source_at(sent.data().index(it)) for it in (b"m V", b"NULL", b")")], [12, 22, 29])
+        both = batch_of([sent, Sent(read_statement("DELETE FROM m WHERE id = ?"), "", ("7",))])
+        self.assertEqual(both.statement.text, "BATCH INSERT INTO m VALUES (?, ?, ?), DELETE FROM m WHERE id = ?")
+        self.assertEqual(both.data(), b"BATCH INSERT INTO m VALUES (1, 'a%s', NULL), DELETE FROM m WHERE id = 7;")
+        self.assertEqual([both.source_at(both.data().index(it)) for it in (b"NULL", b"DELETE", b"7")], [28, 38, 63])
 
     def test_each_refusal_has_a_class(self) -> None:
         formats = (TOP / "docs/FORMATS.md").read_text()
