@@ -8,10 +8,11 @@ use Rattle.pq_row_code.specs.declared.changes.Change.{Change as Coded}
 use Rattle.pq_content.specs.Standing.{change_of}
 use Rattle.pq_store.specs.Content.{key_cmp}
 use Rattle.pq_pending.specs.Pending.{with_change, changed_value}
+use Rattle.pq_pending.specs.Placed.{HavePlaces, is_of as names}
 
 module _ (key : List ℕ) where
-  abbrev pub is_of : Coded → Bool
-  is_of change = eq_by_cmp key_cmp change.key key
+  abbrev is_of : Coded → Bool
+  is_of change = names key change
 
   -- ---- at the first place
 

@@ -6,6 +6,7 @@
 
 mod calls;
 mod pending;
+mod placed;
 
 pub use calls::PendingCalls;
 pub use pending::Pending;

@@ -1,12 +1,12 @@
 //! Changes that are not made yet.
-ghost use Rattle.std.specs.Prelude.{◌≡◌, ◌<◌, ◌+◌, ◌^◌, position, map, OnOk, IfOk};
+ghost use Rattle.std.specs.Prelude.{◌≡◌, ◌<◌, ◌+◌, ◌^◌, map, IfOk};
 ghost use Rattle.std.specs.List.{count_by};
 ghost use Rattle.std.specs.Option.{option_map};
-ghost use Rattle.std.specs.Ordering.{eq_by_cmp};
 ghost use Rattle.pq_content.specs.Standing.{change_of};
-ghost use Rattle.pq_store.specs.Content.{entry, key_cmp};
-ghost use Rattle.pq_pending.specs.Pending.{nothing_ahead, with_change, with_changes, changed_value, lies_within, removals_within, puts_within, is_unchanged, AreDistinct, RemovesAtMost};
+ghost use Rattle.pq_store.specs.Content.{entry};
+ghost use Rattle.pq_pending.specs.Pending.{nothing_ahead, with_changes, changed_value, lies_within, removals_within, puts_within, is_unchanged, AreDistinct, RemovesAtMost};
 
+use crate::placed::PlacedChanges;
 use pq_base::{Bytes, List, NoMem};
 use pq_row_code::Change;
 use pq_store::Pair;
@@ -17,7 +17,7 @@ use std::marker::Model;
 /// remove pairs, each of which removes at most one of a sequence.
 #[derive(Drop)]
 pub struct Pending {
-    changes: List<Change>,
+    changes: PlacedChanges,
     removers: u32,
 }
 
@@ -34,44 +34,18 @@ impl Model for Pending {
         × RemovesAtMost p.removers (map change_of p.changes) };
 }
 
-// The place of the change of this key.
-fn place_of(changes: &[Change], key: &[u8]) -> Option<usize>
-    ensures { result ≡ position (λ change. eq_by_cmp key_cmp change.key key.now) changes.now }
-{
-    changes
-        .iter()
-        .position(|change| change.key.items().cmp(key).is_eq())
-}
-
-// What the changes give the key, where one of them is of it.
-fn value_of<'a>(changes: &'a [Change], key: &[u8]) -> Option<&'a Option<Bytes>>
-    ensures { option_map (λ new. new.now) result ≡ changed_value (map change_of changes.now) key.now }
-{
-    match place_of(changes, key) {
-        Some(place) => Some(&changes[place].new),
-        None => None,
-    }
-}
-
-fn put_change(changes: &mut Vec<Change>, change: Change) -> Result<(), NoMem>
-    ensures { OnOk result
-        (map change_of changes.new.items ≡ with_change (map change_of changes.old.items) (change_of change)) }
-{
-    match place_of(changes, change.key.items()) {
-        Some(place) => changes[place] = change,
-        None => changes.push(change)?,
-    }
-    Ok(())
-}
-
-fn put_all(changes: List<Change>, more: List<Change>) -> Result<List<Change>, NoMem>
+fn put_all(
+    alloc: Global,
+    changes: PlacedChanges,
+    more: List<Change>,
+) -> Result<PlacedChanges, NoMem>
     ensures { IfOk result (λ made. map change_of made ≡ with_changes (map change_of changes) (map change_of more)) }
 {
-    let mut all = changes.into_vec();
+    let mut all = changes;
     for change in more.into_vec() {
-        put_change(&mut all, change)?;
+        all = all.with(alloc, change)?;
     }
-    Ok(List::from_vec(all))
+    Ok(all)
 }
 
 // Whether low <= key < high.
@@ -105,12 +79,12 @@ fn puts_of(changes: &[Change], low: &[u8], high: &[u8]) -> usize
     count
 }
 
-fn unchanged_of(changes: &[Change], pairs: &[Pair]) -> usize
+fn unchanged_of(changes: &PlacedChanges, pairs: &[Pair]) -> usize
     ensures { result ≡ count_by (is_unchanged (map change_of changes.now)) (map entry pairs.now) }
 {
     let mut count = 0;
     for pair in pairs {
-        if value_of(changes, pair.key.items()).is_none() {
+        if changes.value(pair.key.items()).is_none() {
             count += 1;
         }
     }
@@ -123,18 +97,13 @@ impl Pending {
         ensures { result ≡ nothing_ahead }
     {
         Pending {
-            changes: List::new(alloc),
+            changes: PlacedChanges::none(alloc),
             removers: 0,
         }
     }
 
     /// These changes and behind them more, of so many writes that remove pairs.
-    pub fn with(
-        self,
-        _alloc: Global,
-        changes: List<Change>,
-        removers: u32,
-    ) -> Result<Pending, NoMem>
+    pub fn with(self, alloc: Global, changes: List<Change>, removers: u32) -> Result<Pending, NoMem>
         requires thin { RemovesAtMost removers (map change_of changes) }
         requires few { self.removers + removers < 2 ^ 32 }
         ensures { IfOk result (λ made. made ≡ record {
@@ -143,7 +112,7 @@ impl Pending {
         }) }
     {
         Ok(Pending {
-            changes: put_all(self.changes, changes)?,
+            changes: put_all(alloc, self.changes, changes)?,
             removers: self.removers + removers,
         })
     }
@@ -152,7 +121,7 @@ impl Pending {
     pub fn into_changes(self) -> List<Change>
         ensures { map change_of result ≡ self.changes }
     {
-        self.changes
+        self.changes.into_list()
     }
 
     /// Tells a proof that each change is of a key of its own, and how few pairs of a sequence they remove.
@@ -167,7 +136,7 @@ impl Pending {
     pub(crate) fn value(&self, key: &[u8]) -> Option<&Option<Bytes>>
         ensures { option_map (λ new. new.now) result ≡ changed_value self.now.changes key.now }
     {
-        value_of(self.changes.items(), key)
+        self.changes.value(key)
     }
 
     /// How many pairs with `low <= key < high` are removed.
@@ -188,6 +157,6 @@ impl Pending {
     pub(crate) fn unchanged(&self, pairs: &[Pair]) -> usize
         ensures { result ≡ count_by (is_unchanged self.now.changes) (map entry pairs.now) }
     {
-        unchanged_of(self.changes.items(), pairs)
+        unchanged_of(&self.changes, pairs)
     }
 }

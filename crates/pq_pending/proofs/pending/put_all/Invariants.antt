@@ -6,4 +6,4 @@ use Rattle.pq_pending.proofs.pending.put_all.Given as goal
 
 abbrev pub invariant-loop-change : goal.invariant-loop-change
 invariant-loop-change l =
-    with_changes (map change_of l.all.items) (map change_of (into_iter_items l.change-iterator)) ≡ with_changes (map change_of l.fn.changes) (map change_of l.fn.more)
+    with_changes (map change_of l.all) (map change_of (into_iter_items l.change-iterator)) ≡ with_changes (map change_of l.fn.changes) (map change_of l.fn.more)
