@@ -1,5 +1,5 @@
 -- The changes of a row's entries, one index after the other.
-use Rattle.std.proofs.Common.{◌≡◌, ℕ, zero, suc, ◌+◌, ◌<◌, List, [], ◌∷◌, ◌++◌, length, take, map, get_or, Some, None, refl, sym, ap, ◌∙◌, arith, append_assoc, add-one}
+use Rattle.std.proofs.Common.{◌≡◌, ℕ, zero, suc, ◌+◌, ◌<◌, List, [], ◌∷◌, ◌++◌, length, take, map, get_or, Option, Some, None, refl, sym, ap, ◌∙◌, arith, append_assoc, add-one}
 use Rattle.std.proofs.lemmas.List.{map-append}
 use Rattle.pq_base.specs.declared.value.Value.{Value}
 use Rattle.pq_key_code.specs.KeyCode.{row_key}
@@ -103,21 +103,17 @@ module _ (t : ℕ) (table : Table) (row : List Value) where
 
 -- ---- the change at the row's own key, and those of its entries
 
+pub first_at : (t : ℕ) (key : List Value) (at : List ℕ) (value : Option (List ℕ)) (changes rest : List Change) → at ≡ row_key t key → changes ≡ (at, value) ∷ rest → changes ≡ (row_key t key, value) ∷ rest
+first_at t key at value changes rest is made = made ∙ ap (λ (k : List ℕ). (k, value) ∷ rest) is
+
 pub own_puts : (t : ℕ) (table : Table) (row : List Value) (at : List ℕ) (changes : List Change) → at ≡ row_key t (key_of table row) → changes ≡ (at, Some (stored_code table row)) ∷ puts (entries_from t 1 table table.indexes row)
     → changes ≡ puts (pairs_of_row t table row)
-own_puts t table row at changes is made = made ∙ ap (λ (k : List ℕ). (k, Some (stored_code table row)) ∷ puts (entries_from t 1 table table.indexes row)) is
+own_puts t table row at changes = first_at t (key_of table row) at (Some (stored_code table row)) changes (puts (entries_from t 1 table table.indexes row))
 
 pub own_removals : (t : ℕ) (table : Table) (row : List Value) (at : List ℕ) (changes : List Change) → at ≡ row_key t (key_of table row) → changes ≡ (at, None) ∷ removals (entries_from t 1 table table.indexes row)
     → changes ≡ removals (pairs_of_row t table row)
-own_removals t table row at changes is made = made ∙ ap (λ (k : List ℕ). (k, None) ∷ removals (entries_from t 1 table table.indexes row)) is
+own_removals t table row at changes = first_at t (key_of table row) at None changes (removals (entries_from t 1 table table.indexes row))
 
 pub own_updates : (t : ℕ) (table : Table) (old new : List Value) (at : List ℕ) (changes : List Change) → at ≡ row_key t (key_of table new) → changes ≡ (at, Some (stored_code table new)) ∷ entry_changes t 1 table table.indexes old new
     → changes ≡ update_changes t table old new
-own_updates t table old new at changes is made = made ∙ ap (λ (k : List ℕ). (k, Some (stored_code table new)) ∷ entry_changes t 1 table table.indexes old new) is
-
--- a removal and a change at the row's key come first
-pub own_removal : (t : ℕ) (key : List Value) (at : List ℕ) (changes rest : List Change) → at ≡ row_key t key → changes ≡ (at, None) ∷ rest → (more : List Change) × (changes ≡ (row_key t key, None) ∷ more)
-own_removal t key at changes rest is made = (rest, made ∙ ap (λ (k : List ℕ). (k, None) ∷ rest) is)
-
-pub own_change : (t : ℕ) (key : List Value) (at value : List ℕ) (changes rest : List Change) → at ≡ row_key t key → changes ≡ (at, Some value) ∷ rest → (put : List ℕ) × (more : List Change) × (changes ≡ (row_key t key, Some put) ∷ more)
-own_change t key at value changes rest is made = (value, rest, made ∙ ap (λ (k : List ℕ). (k, Some value) ∷ rest) is)
+own_updates t table old new at changes = first_at t (key_of table new) at (Some (stored_code table new)) changes (entry_changes t 1 table table.indexes old new)

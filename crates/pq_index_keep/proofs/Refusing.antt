@@ -1,17 +1,14 @@
 -- The refusals that a write can have.
-use Rattle.std.proofs.Common.{◌≡◌, ℕ, ◌<◌, Bool, true, false, cond, not, Option, Some, None, List, [], ◌∷◌, length, inl, inr, refl, sym, ap, ◌∙◌, subst}
-use Rattle.std.specs.Prelude.{IfSome, find, is_none, nat_lt, option_map, slice_index_or}
+use Rattle.std.proofs.Common.{◌≡◌, ℕ, true, false, cond, not, Option, Some, None, List, [], ◌∷◌, inl, inr, refl, sym, ◌∙◌, subst}
+use Rattle.std.specs.Prelude.{IfSome, find, is_none, option_map}
 use Rattle.std.specs.List.{position}
-use Rattle.std.proofs.lemmas.Bool.{ltb-true}
 use Rattle.std.proofs.lemmas.Option.{none-some, same_Some}
 use Rattle.pq_base.specs.declared.refusal.Refusal.{Refusal}
-use Rattle.pq_base.specs.declared.refusal.Refusal.TheVariants.{RowLong}
 use Rattle.pq_base.specs.declared.value.Value.{Value}
-use Rattle.pq_schema.specs.Definitions.{refused_if}
-use Rattle.pq_schema.specs.Tables.{no_table, table_at}
+use Rattle.pq_schema.specs.Tables.{table_at}
 use Rattle.pq_schema.specs.declared.table.Table.{Table}
 use Rattle.pq_base.specs.Answers.{or_else}
-use Rattle.pq_index_keep.specs.Effects.{condition_refusal, held_refusal, no_parent, no_room, no_sum, referenced_refusal, sum_refusal, unmet}
+use Rattle.pq_index_keep.specs.Effects.{condition_refusal, held_refusal, no_sum, sum_refusal, unmet}
 use Rattle.pq_index_keep.specs.Refusals.{CanRefuse, IsDeleteRefusal, IsInsertRefusal, IsNoSum, IsTestRefusal, IsUnmet, IsUpdateRefusal, RefusesAs}
 use Rattle.pq_index_keep.specs.Tested.{holds_of, set_value}
 use Rattle.pq_index_keep.specs.declared.plan.Planned.TheVariants.{Refused}
@@ -25,35 +22,9 @@ pub tests_insert : (table : Table) (found : Option Refusal) → IfSome found (Is
 tests_insert table None is = tt
 tests_insert table (Some why) is = inr is
 
-pub tests_update : (table : Table) (found : Option Refusal) → IfSome found (IsTestRefusal table) → IfSome found (IsUpdateRefusal table)
-tests_update table None is = tt
-tests_update table (Some why) is = inr is
-
--- what was found at this place
-pub at_parent : (table : Table) (found : Option ℕ) (place : ℕ) (why : Refusal) → found ≡ Some place → IfSome found (λ i. i < length table.foreign) → why ≡ no_parent table place → IsTestRefusal table why
-at_parent table found place why is within told = inl (place, subst (λ (o : Option ℕ). IfSome o (λ i. i < length table.foreign)) is within, told)
-
-pub at_limit : (table : Table) (found : Option ℕ) (place : ℕ) (why : Refusal) → found ≡ Some place → IfSome found (λ i. i < length table.limits) → why ≡ no_room table place → IsTestRefusal table why
-at_limit table found place why is within told = inr (place, subst (λ (o : Option ℕ). IfSome o (λ i. i < length table.limits)) is within, told)
-
-pub at_child : (tables : List Table) (child : ℕ) (table : Table) (found : Option ℕ) (place : ℕ) (why : Refusal) → child < length tables → table ≡ slice_index_or tables child no_table → found ≡ Some place
-    → IfSome found (λ i. i < length table.foreign) → why ≡ referenced_refusal table place → IsDeleteRefusal tables why
-at_child tables child table found place why low same is within told =
-    (child, low, place, subst (λ (t : Table). place < length t.foreign) same (subst (λ (o : Option ℕ). IfSome o (λ i. i < length table.foreign)) is within), told ∙ ap (λ (t : Table). referenced_refusal t place) same)
-
 -- a refusal that was found is one that the write can have
 pub found_can : (tables : List Table) (write : Write) (found : Option Refusal) (why : Refusal) → found ≡ Some why → IfSome found (CanRefuse tables write) → RefusesAs tables write (Refused why)
 found_can tables write found why is can = subst (λ (o : Option Refusal). IfSome o (CanRefuse tables write)) is can
-
--- a code that is too long
-pub long_update : (table : Table) (bytes : ℕ) (found : Option Refusal) (why : Refusal) → found ≡ refused_if (nat_lt 4096 bytes) (RowLong table.name bytes) → found ≡ Some why → IsUpdateRefusal table why
-long_update table bytes found why told is = by (nat_lt 4096 bytes) refl
-  where
-    by : (b : Bool) → nat_lt 4096 bytes ≡ b → IsUpdateRefusal table why
-    by true more =
-        let same : Some (RowLong table.name bytes) ≡ Some why = ap (λ (b : Bool). refused_if b (RowLong table.name bytes)) (sym more) ∙ sym told ∙ is in
-        inl (bytes, ltb-true 4096 bytes more, sym (same_Some _ _ same))
-    by false fewer = absurd (none-some why (ap (λ (b : Bool). refused_if b (RowLong table.name bytes)) (sym fewer) ∙ sym told ∙ is))
 
 -- ---- refusals of the row that is there
 

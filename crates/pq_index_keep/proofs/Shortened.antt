@@ -1,10 +1,9 @@
 -- The keys and values of the changes of a write are short.
 use Rattle.std.proofs.Common.{◌≡◌, ℕ, ◌+◌, ◌*◌, ◌≤◌, zero, suc, true, false, cond, List, [], ◌∷◌, ◌++◌, length, replicate, Option, Some, None, sym, ap, subst, ◌∙◌, arith}
-use Rattle.std.specs.Prelude.{All, IfNone, nat_lt}
+use Rattle.std.specs.Prelude.{All, IfNone}
 use Rattle.std.specs.List.{AllByRecursion}
 use Rattle.std.proofs.lemmas.List.{length-map}
 use Rattle.std.proofs.Math.Nat.{mul-le-mul_right}
-use Rattle.std.proofs.lemmas.Bool.{ltb-false}
 use Rattle.pq_base.specs.declared.refusal.Refusal.{Refusal}
 use Rattle.pq_base.specs.declared.value.Dir.TheVariants.{Asc}
 use Rattle.pq_base.specs.declared.value.Value.{Value}
@@ -12,7 +11,6 @@ use Rattle.pq_base.specs.Values.{AllFit}
 use Rattle.pq_base.proofs.TypeFits.{length_from_fits}
 use Rattle.pq_key_code.specs.KeyCode.{row_key}
 use Rattle.pq_row_code.specs.RowCode.{IsShort}
-use Rattle.pq_schema.specs.Definitions.{refused_if}
 use Rattle.pq_schema.specs.Sound.{IsSized}
 use Rattle.pq_schema.specs.declared.table.Column.{Column}
 use Rattle.pq_schema.specs.declared.table.Index.{Index}
@@ -26,7 +24,7 @@ use Rattle.pq_content.proofs.Values.{key_fits}
 use Rattle.pq_index_keep.specs.Promises.{IsShortChange}
 use Rattle.pq_index_keep.specs.Sound.{IsWritable}
 use Rattle.pq_index_keep.proofs.Coding.{shorts, within_short, key_within, narrow_sequence}
-use Rattle.pq_index_keep.proofs.Inserting.{each_is, each_by, not_refused}
+use Rattle.pq_index_keep.proofs.Inserting.{each_is, each_by}
 
 value_within : (row : List Value) (col : ℕ) → AllByRecursion IsShort row → IsWithinLength 1000 (value_of row col)
 value_within [] col h = tt
@@ -102,7 +100,3 @@ module _ (tables : List Table) (table : Table) (w : IsWritable tables table) (t 
 pub none_short : (found : Option Refusal) (length : ℕ) → found ≡ None → IfNone found (length ≤ 4096) → length ≤ 4096
 none_short None length is h = h
 none_short (Some why) length is h = absurd (cc)
-
--- a row whose code isn't refused is short
-pub unrefused_short : (why : Refusal) (length : ℕ) → refused_if (nat_lt 4096 length) why ≡ None → length ≤ 4096
-unrefused_short why length none = let less = ltb-false 4096 length (not_refused (nat_lt 4096 length) why none) in omega (arith, less)

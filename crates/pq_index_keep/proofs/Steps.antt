@@ -1,20 +1,17 @@
 -- What holds in the next turn of a loop, and over a later call.
-use Rattle.std.proofs.Common.{◌≡◌, ◌<◌, ◌≤◌, ◌+◌, ◌==◌, ℕ, zero, suc, Bool, true, List, [], ◌∷◌, length, take, get_or, Option, Some, None, sym, subst, ◌∙◌, arith}
+use Rattle.std.proofs.Common.{◌≡◌, ◌<◌, ◌+◌, ◌==◌, ℕ, zero, suc, Bool, true, List, [], ◌∷◌, length, take, get_or, Option, Some, None, sym, subst, ◌∙◌, arith}
 use Rattle.std.specs.Prelude.{All}
 use Rattle.std.specs.List.{count_by, sum_by, position}
 use Rattle.std.proofs.lemmas.Grind.{common_steps}
 use Rattle.pq_schema.specs.declared.table.Foreign.{Foreign}
 use Rattle.pq_schema.specs.declared.table.Table.{Table}
-use Rattle.pq_content.specs.Pairs.{Pair, Change}
+use Rattle.pq_content.specs.Pairs.{Pair}
 use Rattle.pq_content.specs.Tables.{Rows}
 use Rattle.pq_calls.specs.World.{World, Affords, Reads}
-use Rattle.pq_pending.specs.Calls.{Uses, answers_of}
-use Rattle.pq_pending.specs.Pending.{seen_answers}
+use Rattle.pq_pending.specs.Calls.{Uses}
 use Rattle.pq_pending.specs.declared.calls.PendingCalls.{PendingCalls}
 use Rattle.pq_pending.proofs.Steps.{share_next, uses_next, uses_stop}
-use Rattle.pq_store.specs.Breaks.{IsAnswered}
 use Rattle.pq_store.specs.Content.{Content}
-use Rattle.pq_store.specs.declared.damage.Broke.{Broke}
 use Rattle.pq_index_keep.specs.Bounds.{refers, referring_count, names_behind, refers_behind, referring_behind}
 use Rattle.pq_index_keep.specs.Promises.{HoldsRows}
 
@@ -35,16 +32,6 @@ position_here p (y ∷ xs) (suc i) x less at none passes = grind (arith, common_
 module _ {S L : Type 0} (content : S → Option Content) (faults : S → ℕ) (a b : PendingCalls S L) (ops entries : ℕ) (r : Uses content faults a b ops entries) where
   pub same_removers : b.pending.now.removers ≡ a.pending.now.removers
   same_removers = λ i. (r.same_pending i).now.removers
-
-  same_changes : b.pending.now.changes ≡ a.pending.now.changes
-  same_changes = λ i. (r.same_pending i).now.changes
-
-  pub few_later : (most : ℕ) → a.pending.now.removers ≤ most → b.pending.now.removers ≤ most
-  few_later most few = subst (λ (n : ℕ). n ≤ most) (sym same_removers) few
-
-  -- what is answered behind a call is answered before it
-  pub answered_before : (answers : List ℕ → Option (List ℕ) → Type 0) (error : Broke) → IsAnswered (answers_of answers b) error → IsAnswered (answers_of answers a) error
-  answered_before answers error = subst (λ (changes : List Change). IsAnswered (seen_answers answers changes) error) same_changes
 
 -- ---- a loop in which what an item's share is goes by what is pending
 

@@ -8,15 +8,15 @@ use Rattle.pq_row_code.specs.declared.changes.Change.{Change}
 use Rattle.pq_row_code.specs.Changes.{AreChanges}
 use Rattle.pq_schema.specs.declared.table.Table.{Table}
 use Rattle.pq_schema.specs.Tables.{table_at}
-use Rattle.pq_content.specs.Pairs.{Pair, changed_content, content_pairs, pairs_of_row, puts}
+use Rattle.pq_content.specs.Pairs.{Pair, Change as Changed, changed_content, content_pairs, entries_from, entry_changes, pairs_of_row, puts, removals}
 pub use Rattle.pq_content.specs.Pairs.{HoldsRows}
 use Rattle.pq_content.specs.Standing.{change_of, AreOfRows}
-use Rattle.pq_content.specs.Tables.{Rows, AllOfKinds, types_of, shape_of, key_types, cells, Keeps}
+use Rattle.pq_content.specs.Tables.{Rows, AllOfKinds, types_of, shape_of, key_types, cells, stored_code, Keeps}
 use Rattle.pq_store.specs.Content.{Content}
 use Rattle.pq_calls.specs.Evidence.{IsRead}
 use Rattle.pq_pending.specs.Pending.{RemovesAtMost}
 use Rattle.pq_index_keep.specs.Bounds.{removers_of}
-use Rattle.pq_index_keep.specs.Effects.{effect, changes_of, held_refusal}
+use Rattle.pq_index_keep.specs.Effects.{effect, changes_of, condition_refusal, held_refusal}
 use Rattle.pq_index_keep.specs.Tested.{with_sets}
 use Rattle.pq_index_keep.specs.declared.plan.Planned.{Planned}
 use Rattle.pq_index_keep.specs.declared.plan.Planned.TheVariants as planned
@@ -70,20 +70,6 @@ abbrev pub RemovesFew : Write → Planned → Type 0
 RemovesFew write (planned.Changes changes) = RemovesAtMost (removers_of write) (map change_of changes)
 RemovesFew write (planned.Refused refusal) = Unit {0}
 
--- the row's own pair is the first change: an INSERT's changes are just the pairs of its row, an UPDATE puts a value
--- at the row's key, and a DELETE removes it
-abbrev pub HasOwn : List Table → Write → List (List ℕ × Option (List ℕ)) → Type 0
-HasOwn tables (write.Insert t row) changes = changes ≡ puts (pairs_of_row t (table_at tables t) row)
-HasOwn tables (write.Update t key sets conds) changes =
-    (value : List ℕ) × (rest : List (List ℕ × Option (List ℕ))) × (changes ≡ (row_key t key, Some value) ∷ rest)
-HasOwn tables (write.Delete t key conds) changes =
-    (rest : List (List ℕ × Option (List ℕ))) × (changes ≡ (row_key t key, None) ∷ rest)
-
--- what is planned changes the row's own pair, whatever the store tells
-abbrev pub ChangesOwn : List Table → Write → Planned → Type 0
-ChangesOwn tables write (planned.Changes changes) = HasOwn tables write (map change_of changes)
-ChangesOwn tables write (planned.Refused refusal) = Unit {0}
-
 -- what was read of the old row, where the store tells: none for an INSERT
 abbrev pub IsReadFor : List Table → Write → Content → Option (List Value) → Type 0
 IsReadFor tables (write.Insert t row) content old = old ≡ None
@@ -105,3 +91,29 @@ IsNewFor tables (write.Update t key sets conds) None new = new ≡ None
 IsNewFor tables (write.Update t key sets conds) (Some old) new =
     new ≡ (if is_none (held_refusal (table_at tables t) sets conds old) then Some (with_sets sets old) else None)
 IsNewFor tables (write.Delete t key conds) old new = new ≡ None
+
+-- the changes of a write by the row that was read for it: an INSERT puts the pairs of its row; an UPDATE, whose
+-- conditions hold and whose sums are there, puts the new row at the key and moves the entries that differ; and a
+-- DELETE, whose conditions hold, removes the value at the key and the old row's entries
+abbrev pub HasOwn : List Table → Write → Option (List Value) → List Changed → Type 0
+HasOwn tables (write.Insert t row) old changes = changes ≡ puts (pairs_of_row t (table_at tables t) row)
+HasOwn tables (write.Update t key sets conds) None changes = ⊥
+HasOwn tables (write.Update t key sets conds) (Some old) changes =
+    (held_refusal (table_at tables t) sets conds old ≡ None)
+    × (changes ≡ (row_key t key, Some (stored_code (table_at tables t) (with_sets sets old)))
+    ∷ entry_changes t 1 (table_at tables t) (table_at tables t).indexes old (with_sets sets old))
+HasOwn tables (write.Delete t key conds) None changes = ⊥
+HasOwn tables (write.Delete t key conds) (Some old) changes =
+    (condition_refusal (table_at tables t) conds old ≡ None)
+    × (changes ≡ (row_key t key, None)
+    ∷ removals (entries_from t 1 (table_at tables t) (table_at tables t).indexes old))
+
+-- what is planned are these changes, whatever the store tells
+abbrev pub ChangesFrom : List Table → Write → Option (List Value) → Planned → Type 0
+ChangesFrom tables write old (planned.Changes changes) = HasOwn tables write old (map change_of changes)
+ChangesFrom tables write old (planned.Refused refusal) = Unit {0}
+
+-- they are those of some old row that fits
+abbrev pub ChangesOwn : List Table → Write → Planned → Type 0
+ChangesOwn tables write planned =
+    (old : Option (List Value)) × FitsItsTable tables write old × ChangesFrom tables write old planned

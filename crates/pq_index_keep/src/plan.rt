@@ -15,7 +15,7 @@ ghost use Rattle.pq_store.specs.Breaks.{IsAnswered};
 ghost use Rattle.pq_pending.specs.Calls.{Uses, Fails, seen, answers_of};
 ghost use Rattle.pq_calls.specs.Evidence.{IsRead, IsNoRow};
 ghost use Rattle.pq_calls.specs.World.{Affords, no_damage, where_told};
-ghost use Rattle.pq_index_keep.specs.Promises.{HoldsRows, Plans, IsPlannedWithin, ChangesOwn, IsShortWithin, RemovesFew, IsReadFor, FitsItsTable, IsNewFor};
+ghost use Rattle.pq_index_keep.specs.Promises.{HoldsRows, Plans, IsPlannedWithin, ChangesFrom, IsShortWithin, RemovesFew, IsReadFor, FitsItsTable, IsNewFor};
 ghost use Rattle.pq_index_keep.specs.Refusals.{RefusesAs};
 ghost use Rattle.pq_index_keep.specs.Sound.{AreWritable, IsInsert, IsDelete};
 ghost use Rattle.pq_index_keep.specs.declared.write.Cond.{Cond as Condition};
@@ -101,7 +101,7 @@ pub(crate) fn plan_insert<S: Store<L>, L: Ledger>(
     ensures cause { IfErr result (Fails no_damage S.content S.faults calls.old calls.new) }
     ensures answered { IfErr result (IsAnswered (answers_of S.answers calls.old)) }
     ensures plan { IfOk result (IsPlannedWithin (1 + length (table_at catalog.now.tables number).indexes)) }
-    ensures own { IfOk result (ChangesOwn catalog.now.tables (Write.Insert number row.now)) }
+    ensures own { IfOk result (ChangesFrom catalog.now.tables (Write.Insert number row.now) None) }
     ensures short { IfOk result IsShortWithin }
     ensures thin { IfOk result (RemovesFew (Write.Insert number row.now)) }
     ensures can { IfOk result (RefusesAs catalog.now.tables (Write.Insert number row.now)) }
@@ -177,7 +177,8 @@ fn plan_removal<S: Store<L>, L: Ledger>(
     ensures answered { IfErr result (IsAnswered (answers_of S.answers calls.old)) }
     ensures plan { IfOk result (IsPlannedWithin (1 + length (table_at catalog.now.tables number).indexes)) }
     ensures own { IfOk result (λ planned. (conds : List Condition)
-        → ChangesOwn catalog.now.tables (Write.Delete number key.now conds) planned) }
+        → condition_refusal (table_at catalog.now.tables number) conds row.now ≡ None
+        → ChangesFrom catalog.now.tables (Write.Delete number key.now conds) (Some row.now) planned) }
     ensures short { IfOk result IsShortWithin }
     ensures thin { IfOk result (λ planned. (conds : List Condition)
         → RemovesFew (Write.Delete number key.now conds) planned) }
@@ -224,7 +225,8 @@ fn plan_held<S: Store<L>, L: Ledger>(
     ensures cause { IfErr result (Fails no_damage S.content S.faults calls.old calls.new) }
     ensures answered { IfErr result (IsAnswered (answers_of S.answers calls.old)) }
     ensures plan { IfOk result (IsPlannedWithin (1 + length (table_at catalog.now.tables number).indexes)) }
-    ensures own { IfOk result (ChangesOwn catalog.now.tables (Write.Delete number key.now conds.now)) }
+    ensures own { IfOk result
+        (ChangesFrom catalog.now.tables (Write.Delete number key.now conds.now) (Some row.now)) }
     ensures short { IfOk result IsShortWithin }
     ensures thin { IfOk result (RemovesFew (Write.Delete number key.now conds.now)) }
     ensures can { IfOk result (RefusesAs catalog.now.tables (Write.Delete number key.now conds.now)) }
@@ -260,17 +262,21 @@ pub(crate) fn plan_delete<S: Store<L>, L: Ledger>(
     ensures answered { IfErr result (IsAnswered (answers_of S.answers calls.old)) }
     ensures plan { IfOk result (λ made.
         IsPlannedWithin (1 + length (table_at catalog.now.tables number).indexes) made.planned) }
-    ensures own { IfOk result (λ made. ChangesOwn catalog.now.tables (Write.Delete number key.now conds.now) made.planned) }
+    ensures own { IfOk result (λ made.
+        ChangesFrom catalog.now.tables (Write.Delete number key.now conds.now) made.old made.planned) }
     ensures short { IfOk result (λ made. IsShortWithin made.planned) }
     ensures thin { IfOk result (λ made. RemovesFew (Write.Delete number key.now conds.now) made.planned) }
-    ensures can { IfOk result (λ made. RefusesAs catalog.now.tables (Write.Delete number key.now conds.now) made.planned) }
+    ensures can { IfOk result (λ made.
+        RefusesAs catalog.now.tables (Write.Delete number key.now conds.now) made.planned) }
     ensures answer { IfOk result (λ made. (rows : Rows) (others : List Pair)
         → HoldsRows (seen S.content calls.old) catalog.now.tables rows others
         → Plans catalog.now.tables rows others (Write.Delete number key.now conds.now) made.planned) }
     ensures read { IfOk result (λ made. IfSome (seen S.content calls.old)
         (λ c. IsReadFor catalog.now.tables (Write.Delete number key.now conds.now) c made.old)) }
-    ensures fits { IfOk result (λ made. FitsItsTable catalog.now.tables (Write.Delete number key.now conds.now) made.old) }
-    ensures new { IfOk result (λ made. IsNewFor catalog.now.tables (Write.Delete number key.now conds.now) made.old made.new) }
+    ensures fits { IfOk result (λ made.
+        FitsItsTable catalog.now.tables (Write.Delete number key.now conds.now) made.old) }
+    ensures new { IfOk result (λ made.
+        IsNewFor catalog.now.tables (Write.Delete number key.now conds.now) made.old made.new) }
 {
     match find_row(alloc, catalog, number, key, calls) {
         Err(error) => Err(error),

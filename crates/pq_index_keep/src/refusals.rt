@@ -132,10 +132,12 @@ pub(crate) fn tested_refusal<S: Store<L>, L: Ledger>(
     requires removers { calls.old.pending.now.removers ≤ 256 }
     requires share { Affords calls.old.allowance.now
         (tested_foreign scope.now table.now.foreign + tested_limits scope.now table.now.limits)
-        (tested_foreign scope.now table.now.foreign + sum_by (tested_n_behind calls.old.pending.now.removers scope.now) table.now.limits) }
+        (tested_foreign scope.now table.now.foreign
+        + sum_by (tested_n_behind calls.old.pending.now.removers scope.now) table.now.limits) }
     ensures uses { Uses S.content S.faults calls.old calls.new
         (tested_foreign scope.now table.now.foreign + tested_limits scope.now table.now.limits)
-        (tested_foreign scope.now table.now.foreign + sum_by (tested_n_behind calls.old.pending.now.removers scope.now) table.now.limits) }
+        (tested_foreign scope.now table.now.foreign
+        + sum_by (tested_n_behind calls.old.pending.now.removers scope.now) table.now.limits) }
     ensures cause { IfErr result (Fails no_damage S.content S.faults calls.old calls.new) }
     ensures answered { IfErr result (IsAnswered (answers_of S.answers calls.old)) }
     ensures can { IfOk result (λ refusal. IfSome refusal (IsTestRefusal table.now)) }

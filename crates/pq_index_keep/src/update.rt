@@ -19,7 +19,7 @@ ghost use Rattle.pq_store.specs.Breaks.{IsAnswered};
 ghost use Rattle.pq_pending.specs.Calls.{Uses, Fails, seen, answers_of};
 ghost use Rattle.pq_calls.specs.Evidence.{IsNoRow};
 ghost use Rattle.pq_calls.specs.World.{Affords, no_damage, where_told};
-ghost use Rattle.pq_index_keep.specs.Promises.{HoldsRows, IsTested, Plans, IsPlannedWithin, ChangesOwn, IsShortWithin, RemovesFew, IsReadFor, FitsItsTable, IsNewFor};
+ghost use Rattle.pq_index_keep.specs.Promises.{HoldsRows, IsTested, Plans, IsPlannedWithin, ChangesFrom, IsShortWithin, RemovesFew, IsReadFor, FitsItsTable, IsNewFor};
 ghost use Rattle.pq_index_keep.specs.Refusals.{IsUpdateRefusal, RefusesAs};
 ghost use Rattle.pq_index_keep.specs.Sound.{AreWritable, IsSet, IsUpdate};
 ghost use Rattle.pq_index_keep.specs.declared.write.Cond.{Cond as Condition};
@@ -112,10 +112,12 @@ fn update_refusal<S: Store<L>, L: Ledger>(
     requires removers { calls.old.pending.now.removers ≤ 256 }
     requires share { Affords calls.old.allowance.now
         (tested_foreign scope.now table.now.foreign + tested_limits scope.now table.now.limits)
-        (tested_foreign scope.now table.now.foreign + sum_by (tested_n_behind calls.old.pending.now.removers scope.now) table.now.limits) }
+        (tested_foreign scope.now table.now.foreign
+        + sum_by (tested_n_behind calls.old.pending.now.removers scope.now) table.now.limits) }
     ensures uses { Uses S.content S.faults calls.old calls.new
         (tested_foreign scope.now table.now.foreign + tested_limits scope.now table.now.limits)
-        (tested_foreign scope.now table.now.foreign + sum_by (tested_n_behind calls.old.pending.now.removers scope.now) table.now.limits) }
+        (tested_foreign scope.now table.now.foreign
+        + sum_by (tested_n_behind calls.old.pending.now.removers scope.now) table.now.limits) }
     ensures cause { IfErr result (Fails no_damage S.content S.faults calls.old calls.new) }
     ensures answered { IfErr result (IsAnswered (answers_of S.answers calls.old)) }
     ensures can { IfOk result (λ refusal. IfSome refusal (IsUpdateRefusal table.now)) }
@@ -161,19 +163,22 @@ fn plan_change<S: Store<L>, L: Ledger>(
         (tested_foreign (scope_of sets.now) (table_at catalog.now.tables number).foreign
         + tested_limits (scope_of sets.now) (table_at catalog.now.tables number).limits)
         (tested_foreign (scope_of sets.now) (table_at catalog.now.tables number).foreign
-        + sum_by (tested_n_behind calls.old.pending.now.removers (scope_of sets.now)) (table_at catalog.now.tables number).limits) }
+        + sum_by (tested_n_behind calls.old.pending.now.removers (scope_of sets.now))
+        (table_at catalog.now.tables number).limits) }
     ensures uses { Uses S.content S.faults calls.old calls.new
         (tested_foreign (scope_of sets.now) (table_at catalog.now.tables number).foreign
         + tested_limits (scope_of sets.now) (table_at catalog.now.tables number).limits)
         (tested_foreign (scope_of sets.now) (table_at catalog.now.tables number).foreign
-        + sum_by (tested_n_behind calls.old.pending.now.removers (scope_of sets.now)) (table_at catalog.now.tables number).limits) }
+        + sum_by (tested_n_behind calls.old.pending.now.removers (scope_of sets.now))
+        (table_at catalog.now.tables number).limits) }
     ensures cause { IfErr result (Fails no_damage S.content S.faults calls.old calls.new) }
     ensures answered { IfErr result (IsAnswered (answers_of S.answers calls.old)) }
     ensures plan { IfOk result (IsPlannedWithin
         (1 + 2 * count_by (touches_index (scope_of sets.now) (table_at catalog.now.tables number))
         (table_at catalog.now.tables number).indexes)) }
     ensures own { IfOk result (λ planned. (conds : List Condition)
-        → ChangesOwn catalog.now.tables (Write.Update number key.now sets.now conds) planned) }
+        → condition_refusal (table_at catalog.now.tables number) conds row.now ≡ None
+        → ChangesFrom catalog.now.tables (Write.Update number key.now sets.now conds) (Some row.now) planned) }
     ensures short { IfOk result IsShortWithin }
     ensures thin { IfOk result (λ planned. (conds : List Condition)
         → RemovesFew (Write.Update number key.now sets.now conds) planned) }
@@ -220,19 +225,21 @@ fn plan_held<S: Store<L>, L: Ledger>(
         (tested_foreign (scope_of sets.now) (table_at catalog.now.tables number).foreign
         + tested_limits (scope_of sets.now) (table_at catalog.now.tables number).limits)
         (tested_foreign (scope_of sets.now) (table_at catalog.now.tables number).foreign
-        + sum_by (tested_n_behind calls.old.pending.now.removers (scope_of sets.now)) (table_at catalog.now.tables number).limits) }
+        + sum_by (tested_n_behind calls.old.pending.now.removers (scope_of sets.now))
+        (table_at catalog.now.tables number).limits) }
     ensures uses { Uses S.content S.faults calls.old calls.new
         (tested_foreign (scope_of sets.now) (table_at catalog.now.tables number).foreign
         + tested_limits (scope_of sets.now) (table_at catalog.now.tables number).limits)
         (tested_foreign (scope_of sets.now) (table_at catalog.now.tables number).foreign
-        + sum_by (tested_n_behind calls.old.pending.now.removers (scope_of sets.now)) (table_at catalog.now.tables number).limits) }
+        + sum_by (tested_n_behind calls.old.pending.now.removers (scope_of sets.now))
+        (table_at catalog.now.tables number).limits) }
     ensures cause { IfErr result (Fails no_damage S.content S.faults calls.old calls.new) }
     ensures answered { IfErr result (IsAnswered (answers_of S.answers calls.old)) }
     ensures plan { IfOk result (λ made. IsPlannedWithin
         (1 + 2 * count_by (touches_index (scope_of sets.now) (table_at catalog.now.tables number))
         (table_at catalog.now.tables number).indexes) made.0) }
     ensures own { IfOk result (λ made.
-        ChangesOwn catalog.now.tables (Write.Update number key.now sets.now conds.now) made.0) }
+        ChangesFrom catalog.now.tables (Write.Update number key.now sets.now conds.now) (Some row.now) made.0) }
     ensures short { IfOk result (λ made. IsShortWithin made.0) }
     ensures thin { IfOk result (λ made. RemovesFew (Write.Update number key.now sets.now conds.now) made.0) }
     ensures can { IfOk result (λ made.
@@ -285,7 +292,7 @@ pub(crate) fn plan_update<S: Store<L>, L: Ledger>(
         (1 + 2 * count_by (touches_index (scope_of sets.now) (table_at catalog.now.tables number))
         (table_at catalog.now.tables number).indexes) made.planned) }
     ensures own { IfOk result (λ made.
-        ChangesOwn catalog.now.tables (Write.Update number key.now sets.now conds.now) made.planned) }
+        ChangesFrom catalog.now.tables (Write.Update number key.now sets.now conds.now) made.old made.planned) }
     ensures short { IfOk result (λ made. IsShortWithin made.planned) }
     ensures thin { IfOk result (λ made. RemovesFew (Write.Update number key.now sets.now conds.now) made.planned) }
     ensures can { IfOk result (λ made.

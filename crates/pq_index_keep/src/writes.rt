@@ -9,7 +9,7 @@ ghost use Rattle.pq_pending.specs.Calls.{Uses, Fails, seen, answers_of};
 ghost use Rattle.pq_pending.specs.Pending.{seen_content, seen_answers};
 ghost use Rattle.pq_calls.specs.Evidence.{IsNoRow};
 ghost use Rattle.pq_calls.specs.World.{world, Affords, Reads, Explains, where_told};
-ghost use Rattle.pq_index_keep.specs.Promises.{HoldsRows, Plans, IsPlannedWithin, ChangesOwn, IsShortWithin, RemovesFew, IsReadFor, FitsItsTable, IsNewFor};
+ghost use Rattle.pq_index_keep.specs.Promises.{HoldsRows, Plans, IsPlannedWithin, ChangesFrom, ChangesOwn, IsShortWithin, RemovesFew, IsReadFor, FitsItsTable, IsNewFor};
 ghost use Rattle.pq_index_keep.specs.Refusals.{RefusesAs};
 ghost use Rattle.pq_index_keep.specs.Sound.{AreWritable, IsWrite};
 
@@ -42,7 +42,7 @@ fn plan_by<S: Store<L>, L: Ledger>(
         calls.new) }
     ensures answered { IfErr result (IsAnswered (answers_of S.answers calls.old)) }
     ensures plan { IfOk result (λ made. IsPlannedWithin (most_changes catalog.now.tables write.now) made.planned) }
-    ensures own { IfOk result (λ made. ChangesOwn catalog.now.tables write.now made.planned) }
+    ensures own { IfOk result (λ made. ChangesFrom catalog.now.tables write.now made.old made.planned) }
     ensures short { IfOk result (λ made. IsShortWithin made.planned) }
     ensures thin { IfOk result (λ made. RemovesFew write.now made.planned) }
     ensures can { IfOk result (λ made. RefusesAs catalog.now.tables write.now made.planned) }
@@ -85,9 +85,9 @@ fn plan_by<S: Store<L>, L: Ledger>(
     }
 }
 
-/// The changes that the write makes behind those that are pending, or its first refusal, and the rows that it was planned
-/// by. It changes nothing in the store. Each count of a test may read one pair more for each write before it that removes
-/// pairs.
+/// The changes that the write makes behind those that are pending, or its first refusal, and the rows that it was
+/// planned by. It changes nothing in the store. Each count of a test may read one pair more for each write before it
+/// that removes pairs.
 pub fn plan_with_rows<S: Store<L>, L: Ledger>(
     alloc: Global,
     catalog: &Catalog,
@@ -116,9 +116,9 @@ pub fn plan_with_rows<S: Store<L>, L: Ledger>(
         → HoldsRows (seen_content pending.now.changes (S.content store.old)) catalog.now.tables rows others
         → IsUndamaged error) }
     ensures plan { IfOk result (λ seen. IsPlannedWithin (most_changes catalog.now.tables write.now) seen.planned) }
-    // Over every store, told or not: the row's own pair is among the changes, these are short and remove few pairs, and a
-    // refusal is one that the write can have.
-    ensures own { IfOk result (λ seen. ChangesOwn catalog.now.tables write.now seen.planned) }
+    // Over every store, told or not: the changes are those of the old row, short, and remove few pairs, and a refusal
+    // is one that the write can have.
+    ensures own { IfOk result (λ seen. ChangesFrom catalog.now.tables write.now seen.old seen.planned) }
     ensures short { IfOk result (λ seen. IsShortWithin seen.planned) }
     ensures thin { IfOk result (λ seen. RemovesFew write.now seen.planned) }
     ensures can { IfOk result (λ seen. RefusesAs catalog.now.tables write.now seen.planned) }
@@ -164,7 +164,7 @@ pub fn plan_write<S: Store<L>, L: Ledger>(
     ensures undamaged { IfErr result (λ error. (rows : Rows) (others : List Pair)
         → HoldsRows (S.content store.old) catalog.now.tables rows others → IsUndamaged error) }
     ensures plan { IfOk result (IsPlannedWithin (most_changes catalog.now.tables write.now)) }
-    // Over every store, told or not: the row's own pair is among the changes, and a refusal is one that the write can
+    // Over every store, told or not: the changes are those of some old row, and a refusal is one that the write can
     // have.
     ensures own { IfOk result (ChangesOwn catalog.now.tables write.now) }
     ensures can { IfOk result (RefusesAs catalog.now.tables write.now) }

@@ -1,7 +1,7 @@
 use Rattle.std.proofs.Common.{◌∙◌, ℕ, sym, List, ◌∷◌, None, subst}
 use Rattle.pq_schema.specs.Tables.{table_at}
 use Rattle.pq_schema.proofs.TypeKinds.{kinds_from_fit}
-use Rattle.pq_index_keep.proofs.Changing.{own_removal}
+use Rattle.pq_index_keep.proofs.Changing.{first_at}
 use Rattle.pq_index_keep.proofs.Coding.{delete_planned}
 use Rattle.pq_index_keep.proofs.Deleting.{may_name, delete_refused, delete_made}
 use Rattle.pq_index_keep.proofs.Inserting.{writable_at}
@@ -38,8 +38,8 @@ returns-in_ok-changes-in-None-clause-answer g c = λ rows others s found conds h
     (rw (← c.table_of-table.ensures.table) c.in_ok-changes-in-None.ensures)
 
 pub returns-in_ok-changes-in-None-clause-own : goal.returns-in_ok-changes-in-None-clause-own
-returns-in_ok-changes-in-None-clause-own g c = λ conds.
-    own_removal c.args.number c.args.key.now c.args.at _ _ c.requires.at c.in_ok-changes-in-None.ensures
+returns-in_ok-changes-in-None-clause-own g c = λ conds holds.
+    (holds, first_at c.args.number c.args.key.now c.args.at None _ _ c.requires.at (rw (← c.table_of-table.ensures.table) c.in_ok-changes-in-None.ensures))
 
 pub returns-in-Some-clause-can : goal.returns-in-Some-clause-can
 returns-in-Some-clause-can g c = λ conds.

@@ -4,10 +4,10 @@ use Rattle.pq_schema.specs.Tables.{table_at}
 use Rattle.pq_index_keep.specs.Promises.{IsTested}
 use Rattle.pq_index_keep.specs.Sound.{IsWritable}
 use Rattle.pq_index_keep.specs.Tested.{with_sets, scope_of}
-use Rattle.pq_index_keep.proofs.Changing.{own_change}
+use Rattle.pq_index_keep.proofs.Changing.{first_at}
 use Rattle.pq_index_keep.proofs.Coding.{fit_texts, fit_columns, update_planned}
 use Rattle.pq_index_keep.proofs.Inserting.{writable_at, is_tested}
-use Rattle.pq_index_keep.proofs.Updating.{fit_sets, sets_small, as_update, kept_sequence, update_refused, update_made}
+use Rattle.pq_index_keep.proofs.Updating.{fit_sets, sets_small, as_update, kept_sequence, none_held, update_refused, update_made}
 use Rattle.std.specs.Prelude.{IfSome}
 use Rattle.pq_schema.specs.declared.table.Table.{Table}
 use Rattle.pq_index_keep.specs.Refusals.{IsUpdateRefusal}
@@ -81,8 +81,10 @@ returns-in_ok-changes-in-None-clause-answer g c = λ rows others s found conds h
     (rw (← c.table_of-table.ensures.table, ← c.requires.new) c.in_ok-changes-in-None.ensures)
 
 pub returns-in_ok-changes-in-None-clause-own : goal.returns-in_ok-changes-in-None-clause-own
-returns-in_ok-changes-in-None-clause-own g c = λ conds.
-    own_change c.args.number c.args.key.now c.args.at _ _ _ c.requires.at c.in_ok-changes-in-None.ensures
+returns-in_ok-changes-in-None-clause-own g c = λ conds holds.
+    let table = table_at c.args.catalog.now.tables c.args.number in
+    let held = none_held table c.args.sets.now conds c.args.row.now holds c.requires.sums in
+    (held, first_at c.args.number c.args.key.now c.args.at (Some (stored_code table (with_sets c.args.sets.now c.args.row.now))) _ _ c.requires.at (rw (← c.table_of-table.ensures.table, ← c.requires.new) c.in_ok-changes-in-None.ensures))
 
 pub returns-in-Some-clause-can : goal.returns-in-Some-clause-can
 returns-in-Some-clause-can g c = λ conds.

@@ -1,6 +1,7 @@
 use Rattle.std.proofs.Common.{◌≡◌, ◌∙◌, sym}
 use Rattle.pq_schema.specs.Tables.{table_at}
-use Rattle.pq_index_keep.specs.Effects.{held_refusal}
+use Rattle.pq_index_keep.specs.Effects.{condition_refusal, held_refusal, sum_refusal}
+use Rattle.pq_index_keep.proofs.Inserting.{or_none}
 use Rattle.pq_index_keep.proofs.Refusing.{held_can}
 use Rattle.pq_index_keep.proofs.Updating.{sets_inside, update_unmet}
 use Rattle.pq_index_keep.proofs.update.plan_held.Goals as goal
@@ -21,7 +22,11 @@ returns-in-Some-clause-answer g c = λ rows others s found.
     update_unmet tables rows others c.args.number c.args.key.now c.args.sets.now c.args.conds.now c.args.row.now c.in-Some.refusal found (sym c.in-Some.is ∙ told)
 
 pub returns-in-Ok-clause-own : goal.returns-in-Ok-clause-own
-returns-in-Ok-clause-own g c = c.in-Ok.ensures.own c.args.conds.now
+returns-in-Ok-clause-own g c =
+    let table = table_at c.args.catalog.now.tables c.args.number in
+    let told : c.in_ok-refusal.field-0 ≡ held_refusal table c.args.sets.now c.args.conds.now c.args.row.now = rw (c.table_of-table.ensures.table, c.items.ensures, c.items-2.ensures) at c.in_ok-refusal.ensures in
+    let held = or_none (condition_refusal table c.args.conds.now c.args.row.now) (sum_refusal table c.args.sets.now c.args.row.now) (sym told ∙ c.in-None.is) in
+    c.in-Ok.ensures.own c.args.conds.now held.0
 
 pub returns-in-Ok-clause-can : goal.returns-in-Ok-clause-can
 returns-in-Ok-clause-can g c = c.in-Ok.ensures.can c.args.conds.now
