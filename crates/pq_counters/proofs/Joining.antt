@@ -1,10 +1,11 @@
 -- The changes of rows and entries and behind them those of counters, as one list.
 use Rattle.std.proofs.Common.{◌≡◌, ℕ, ◌+◌, ◌||◌, Bool, true, false, List, [], ◌∷◌, ◌++◌, length, map, Option, Some, None, Result, Ok, Err, inr, refl, sym, ap, ◌∙◌, subst, arith, length-append}
-use Rattle.std.specs.Prelude.{MatchResult}
+use Rattle.std.specs.Prelude.{All, IfSome, MatchResult}
 use Rattle.std.specs.List.{AllByRecursion}
 use Rattle.std.proofs.lemmas.List.{map-append}
 use Rattle.pq_base.proofs.Members.{each_append}
 use Rattle.pq_base.specs.declared.refusal.Refusal.{Refusal}
+use Rattle.pq_base.specs.declared.value.Value.{Value}
 use Rattle.pq_row_code.specs.Changes.{IsChange}
 use Rattle.pq_row_code.specs.declared.changes.Change.{Change as Coded}
 use Rattle.pq_schema.specs.Definitions.{or_ok}
@@ -14,12 +15,13 @@ use Rattle.pq_schema.specs.declared.table.Table.{Table}
 use Rattle.pq_content.specs.Pairs.{Pair, Change, changed_content, is_of_rows, is_of_counters}
 use Rattle.pq_content.specs.Standing.{change_of, AreIntended, may_intend}
 use Rattle.pq_content.specs.Tables.{Rows}
+use Rattle.pq_store.specs.Content.{Content}
 use Rattle.pq_calls.specs.World.{World, Affords, Reads}
 use Rattle.pq_index_keep.proofs.Inserting.{each_by, each_is}
 use Rattle.pq_index_keep.proofs.Narrow.{valid_writable}
 use Rattle.pq_index_keep.specs.Bounds.{most_changes, tests_behind}
 use Rattle.pq_index_keep.specs.Effects.{effect, changes_of}
-use Rattle.pq_index_keep.specs.Promises.{ArePlanned, MakesRows, Plans}
+use Rattle.pq_index_keep.specs.Promises.{ArePlanned, MakesRows, Plans, IsReadFor, FitsItsTable, HasOwn}
 use Rattle.pq_index_keep.specs.Sound.{IsWrite}
 use Rattle.pq_index_keep.specs.declared.plan.Planned.{Planned}
 use Rattle.pq_index_keep.specs.declared.plan.Planned.TheVariants as planned
@@ -29,7 +31,7 @@ use Rattle.pq_tallies.specs.Defined.{counters_in}
 use Rattle.pq_tallies.specs.Writes.{counted_effect, full_refusal, unless_full}
 use Rattle.pq_counters.specs.Bounds.{all_moves, counter_reads, whole_bound, whole_ops}
 use Rattle.pq_counters.specs.Promises.{IsCounterChange, AreCounterChanges, MakesCounts, RefusesAsFull}
-use Rattle.pq_counters.specs.Whole.{whole_reads, reads_behind, whole_changes, AreWhole, MakesWhole, RefusesWhole, PlansWhole}
+use Rattle.pq_counters.specs.Whole.{whole_reads, reads_behind, whole_changes, AreWhole, HasWhole, MakesWhole, RefusesWhole, PlansWhole}
 use Rattle.pq_counters.proofs.Small.{few_row_changes, moves_few, some_changes, more_ops}
 
 -- ---- what an intent may hold
@@ -75,6 +77,20 @@ are_whole schema w changes more all v may p c is = subst (AreWhole (whole_change
           };
           intended = subst AreIntended (sym (map-append change_of changes more)) (each_append (λ change. may_intend change.0 ≡ true) (map change_of changes) (map change_of more) (rows_intended (map change_of changes) p.of_rows) (counters_intended more each));
         }
+
+-- ---- the changes of the row that was read, and those of counters
+
+pub has_whole : (schema : Schema) (told : Option Content) (w : Write) (old : Option (List Value)) (changes more all : List Coded) → IfSome told (λ content. IsReadFor schema.tables w content old) → FitsItsTable schema.tables w old → HasOwn schema.tables w old (map change_of changes) → All IsCounterChange more → all ≡ changes ++ more → HasWhole schema told w all
+has_whole schema told w old changes more all read fits own counted both = record {
+  old = old;
+  rows = map change_of changes;
+  counts = more;
+  are = ap (map change_of) both ∙ map-append change_of changes more;
+  read = read;
+  fits = fits;
+  own = own;
+  counted = counted;
+}
 
 -- ---- the effect, where counters count
 

@@ -6,7 +6,6 @@ use Rattle.std.proofs.lemmas.Bool.{eqb-true, false≢true}
 use Rattle.std.proofs.lemmas.List.{map-append}
 use Rattle.pq_base.proofs.Members.{each_append}
 use Rattle.pq_base.specs.declared.value.Value.{Value}
-use Rattle.pq_base.specs.declared.value.Value.TheVariants as value
 use Rattle.pq_row_code.specs.RowCode.{IsShort}
 use Rattle.pq_row_code.specs.declared.changes.Change.{Change as Coded}
 use Rattle.pq_schema.specs.declared.table.Access.{Access}
@@ -18,20 +17,15 @@ use Rattle.pq_content.proofs.Lengths.{IsWithinLength}
 use Rattle.pq_pending.specs.Pending.{is_row_of, is_of_sequence, is_removal_of, RemovesAtMost}
 use Rattle.pq_pending.proofs.Lists.{count-cons}
 use Rattle.pq_index_keep.specs.Promises.{IsShortChange}
+use Rattle.pq_index_keep.proofs.Coding.{within_short}
 use Rattle.pq_index_keep.proofs.Inserting.{each_by, each_is}
 use Rattle.pq_counters.specs.Promises.{IsCounterChange}
 
 -- ---- lengths
 
-one_within : (x : Value) → IsShort x → IsWithinLength 1000 x
-one_within value.Null h = tt
-one_within (value.Int n) h = tt
-one_within (value.Bool b) h = tt
-one_within (value.Text t) h = h
-
 value_within : (row : List Value) (col : ℕ) → AllByRecursion IsShort row → IsWithinLength 1000 (value_of row col)
 value_within [] col h = tt
-value_within (x ∷ row) zero h = one_within x h.0
+value_within (x ∷ row) zero h = within_short x h.0
 value_within (x ∷ row) (suc col) h = value_within row col h.1
 
 -- the values of a row whose texts are short are short

@@ -1,5 +1,5 @@
 -- What the plan of a write's counters promises.
-use Rattle.std.specs.Prelude.{◌≡◌, ℕ, ◌≤◌, ◌++◌, true, List, map, length, None, Some, All}
+use Rattle.std.specs.Prelude.{◌≡◌, ℕ, ◌≤◌, ◌++◌, true, List, map, length, Option, None, Some, All}
 use Rattle.pq_base.specs.declared.refusal.Refusal.{Refusal}
 use Rattle.pq_base.specs.Members.{In}
 use Rattle.pq_row_code.specs.declared.changes.Change.{Change as Coded}
@@ -13,13 +13,19 @@ use Rattle.pq_index_keep.specs.Promises.{IsShortChange}
 use Rattle.pq_index_keep.specs.declared.plan.Planned.{Planned}
 use Rattle.pq_index_keep.specs.declared.plan.Planned.TheVariants as planned
 use Rattle.pq_index_keep.specs.declared.write.Write.{Write}
-use Rattle.pq_tallies.specs.Counters.{all_pairs, AreFewRows}
+use Rattle.pq_tallies.specs.Counters.{all_pairs, count_code, most_count, AreFewRows}
 use Rattle.pq_tallies.specs.Defined.{NumberedCounter, counters_in}
 use Rattle.pq_tallies.specs.Writes.{counter_changes, counter_full, full_refusal}
 
--- a short change of a counter's pair, with lengths that an intent can hold
+-- no value, or the code of a number of rows that a group may have
+abbrev pub IsCountValue : Option (List ℕ) → Type 0
+IsCountValue None = Unit {0}
+IsCountValue (Some code) = (n : ℕ) × (1 ≤ n) × (n ≤ most_count) × (count_code n ≡ code)
+
+-- a short change of a counter's pair to a number, with lengths that an intent can hold
 pub record IsCounterChange (change : Coded) : Type 0 where
   pub of_counters : is_of_counters change.key ≡ true
+  pub count : IsCountValue change.new
   pub coded : IsChange change
   pub short : IsShortChange (change_of change)
 

@@ -48,7 +48,8 @@ HasSmallCounter (OfCounter counter) = All (λ col. col < 32) counter.cols
 
 -- the row that an UPDATE puts in the place of this one, where it is as the write says
 abbrev pub row_in_place : Table → List SetCol → List Cond → List Value → Option (List Value)
-row_in_place table sets conds old = if is_none (held_refusal table sets conds old) then Some (with_sets sets old) else None
+row_in_place table sets conds old =
+    if is_none (held_refusal table sets conds old) then Some (with_sets sets old) else None
 
 -- the row that comes in its place, where it has its sums
 pub record ComesInPlace (table : Table) (sets : List SetCol) (old new : List Value) : Type 0 where

@@ -1,15 +1,18 @@
 -- What the whole plan of a write promises: its changes of rows and entries, and behind them those of its counters.
-use Rattle.std.specs.Prelude.{◌≡◌, ◌⊎◌, ℕ, ◌+◌, ◌*◌, ◌≤◌, List, ◌++◌, map, length, Err, MatchResult}
+use Rattle.std.specs.Prelude.{◌≡◌, ◌⊎◌, ℕ, ◌+◌, ◌*◌, ◌≤◌, All, List, ◌++◌, map, length, Option, IfSome, Err, MatchResult}
 use Rattle.pq_base.specs.declared.number.Bound.{Bound}
 use Rattle.pq_base.specs.declared.refusal.Refusal.{Refusal}
+use Rattle.pq_base.specs.declared.value.Value.{Value}
 use Rattle.pq_row_code.specs.declared.changes.Change.{Change as Coded}
 use Rattle.pq_row_code.specs.Changes.{AreChanges}
 use Rattle.pq_schema.specs.Schema.{Schema}
 use Rattle.pq_content.specs.Pairs.{Change, Pair, changed_content}
 use Rattle.pq_content.specs.Standing.{change_of, AreIntended}
 use Rattle.pq_content.specs.Tables.{Rows, Keeps}
+use Rattle.pq_store.specs.Content.{Content}
 use Rattle.pq_index_keep.specs.Bounds.{counted, most_changes, write_tests}
 use Rattle.pq_index_keep.specs.Effects.{changes_of}
+use Rattle.pq_index_keep.specs.Promises.{IsReadFor, FitsItsTable, HasOwn}
 use Rattle.pq_index_keep.specs.Refusals.{CanRefuse}
 use Rattle.pq_index_keep.specs.declared.plan.Planned.{Planned}
 use Rattle.pq_index_keep.specs.declared.plan.Planned.TheVariants as planned
@@ -18,7 +21,7 @@ use Rattle.pq_tallies.specs.Counters.{all_pairs, AreFewRows}
 use Rattle.pq_tallies.specs.Defined.{counters_in}
 use Rattle.pq_tallies.specs.Writes.{counter_changes, counted_effect}
 use Rattle.pq_counters.specs.Bounds.{all_moves, counter_reads}
-use Rattle.pq_counters.specs.Promises.{CanBeFull}
+use Rattle.pq_counters.specs.Promises.{CanBeFull, IsCounterChange}
 
 -- the operations and entries of the tests of a write and of the reads of its counters
 abbrev pub whole_reads : Schema → Write → Bound
@@ -60,6 +63,21 @@ CanRefuseWhole schema write why = CanRefuse schema.tables write why ⊎ CanBeFul
 abbrev pub RefusesWhole : Schema → Write → Planned → Type 0
 RefusesWhole schema write (planned.Changes changes) = Unit {0}
 RefusesWhole schema write (planned.Refused why) = CanRefuseWhole schema write why
+
+-- the changes of the row that is read in a content, where it is told, and behind them some of counters' pairs
+pub record HasWhole (schema : Schema) (told : Option Content) (write : Write) (changes : List Coded) : Type 0 where
+  pub old : Option (List Value)
+  pub rows : List Change
+  pub counts : List Coded
+  pub are : map change_of changes ≡ rows ++ map change_of counts
+  pub read : IfSome told (λ content. IsReadFor schema.tables write content old)
+  pub fits : FitsItsTable schema.tables write old
+  pub own : HasOwn schema.tables write old rows
+  pub counted : All IsCounterChange counts
+
+abbrev pub ChangesWhole : Schema → Option Content → Write → Planned → Type 0
+ChangesWhole schema told write (planned.Changes changes) = HasWhole schema told write changes
+ChangesWhole schema told write (planned.Refused why) = Unit {0}
 
 -- the changes make the content of the effect's rows of that of these, and these keep their tables and counters
 pub record MakesWhole (schema : Schema) (rows : Rows) (others : List Pair) (write : Write) (changes : List Coded)

@@ -9,6 +9,7 @@ ghost use Rattle.pq_content.specs.Standing.{change_of};
 ghost use Rattle.pq_index_keep.specs.Promises.{IsShortChange};
 ghost use Rattle.pq_tallies.specs.Counters.{most_count, stored_count};
 ghost use Rattle.pq_counters.specs.Evidence.{IsCounted, IsNoCountAt};
+ghost use Rattle.pq_counters.specs.Promises.{IsCountValue};
 ghost use Rattle.pq_counters.specs.Steps.{TellsCount, IsJoined, SpoilsLeft};
 
 use pq_base::Bytes;
@@ -66,6 +67,7 @@ pub(crate) fn left<S: Store<L>, L: Ledger>(
     ensures cause { IfErr result (Fails (SpoilsLeft at) S.content S.faults calls.old calls.new) }
     ensures answered { IfErr result (IsAnswered (answers_of S.answers calls.old)) }
     ensures key { IfOk result (λ change. change.key ≡ at) }
+    ensures count { IfOk result (λ change. IsCountValue change.new) }
     ensures coded { IfOk result IsChange }
     ensures short { IfOk result (λ change. IsShortChange (change_of change)) }
     ensures answer { IfOk result (λ change. (n : ℕ) → TellsCount (seen S.content calls.old) at n
@@ -94,6 +96,7 @@ pub(crate) fn joined<S: Store<L>, L: Ledger>(
     ensures cause { IfErr result (Fails (IsNoCountAt at) S.content S.faults calls.old calls.new) }
     ensures answered { IfErr result (IsAnswered (answers_of S.answers calls.old)) }
     ensures key { IfOk result (λ found. IfSome found (λ change. change.key ≡ at)) }
+    ensures count { IfOk result (λ found. IfSome found (λ change. IsCountValue change.new)) }
     ensures coded { IfOk result (λ found. IfSome found IsChange) }
     ensures short { IfOk result (λ found. IfSome found (λ change. IsShortChange (change_of change))) }
     ensures answer { IfOk result (λ found. (n : ℕ) → TellsCount (seen S.content calls.old) at n

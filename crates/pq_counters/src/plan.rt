@@ -1,19 +1,16 @@
 //! The changes of counters' pairs that belong to a write.
-ghost use Rattle.std.specs.Prelude.{◌≡◌, ◌≤◌, ◌+◌, List, All, Ok, Some, option_map, length, IfOk, IfErr, IfSome};
-ghost use Rattle.std.specs.FinMap.{get as value_at};
+ghost use Rattle.std.specs.Prelude.{◌≡◌, List, Ok, Some, IfOk, IfErr, IfSome};
 ghost use Rattle.pq_base.specs.Values.{AllFit};
-ghost use Rattle.pq_key_code.specs.KeyCode.{row_key};
 ghost use Rattle.pq_schema.specs.Tables.{table_at};
 ghost use Rattle.pq_schema.specs.Valid.{IsValid};
 ghost use Rattle.pq_content.specs.Pairs.{Pair};
-ghost use Rattle.pq_content.specs.Tables.{Rows, AllOfKinds, IsTableNumber, key_types, types_of, shape_of, row_at};
+ghost use Rattle.pq_content.specs.Tables.{Rows, types_of, row_at};
 ghost use Rattle.pq_store.specs.Breaks.{IsUndamaged, IsAnswered};
 ghost use Rattle.pq_pending.specs.Calls.{Uses, Fails, seen, answers_of};
 ghost use Rattle.pq_pending.specs.Pending.{seen_content, seen_answers};
 ghost use Rattle.pq_calls.specs.World.{world, Affords, Reads, Explains, where_told};
 ghost use Rattle.pq_index_keep.specs.Effects.{effect};
 ghost use Rattle.pq_index_keep.specs.Promises.{IsReadFor, FitsItsTable, IsNewFor};
-ghost use Rattle.pq_index_keep.specs.Tested.{with_sets};
 ghost use Rattle.pq_index_keep.specs.Sound.{IsWrite, IsInsert, IsUpdate, IsDelete};
 ghost use Rattle.pq_tallies.specs.Counters.{HoldsCounted};
 ghost use Rattle.pq_tallies.specs.Defined.{counters_in};
@@ -342,7 +339,7 @@ pub(crate) fn plan_by_rows<S: Store<L>, L: Ledger>(
     ensures undamaged { IfErr result (λ error. (rows : Rows) (others : List Pair)
         → HoldsCounted (seen_content pending.now.changes (S.content store.old)) catalog.now rows others
         → IsUndamaged error) }
-    // At most as many changes as the counters add, each of a counter's key, whatever the store tells.
+    // At most as many changes as the counters add, each of a counter's key to a number, whatever the store tells.
     ensures plan { IfOk result (IsCountedWithin (all_moves (counters_in catalog.now) write.now)) }
     ensures can { IfOk result (RefusesAsFull catalog.now) }
     ensures answer { IfOk result (λ planned. (rows made : Rows) (others : List Pair)

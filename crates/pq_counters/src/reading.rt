@@ -1,5 +1,5 @@
 //! The changes of counters' pairs that belong to a write whose rows are not at hand.
-ghost use Rattle.std.specs.Prelude.{◌≡◌, ◌≤◌, ◌<◌, ◌+◌, List, All, Ok, length, option_map, IfOk, IfErr, IfSome};
+ghost use Rattle.std.specs.Prelude.{◌≡◌, ◌≤◌, ◌<◌, List, All, Ok, length, option_map, IfOk, IfErr, IfSome};
 ghost use Rattle.std.specs.FinMap.{get as value_at};
 ghost use Rattle.pq_base.specs.Values.{AllFit};
 ghost use Rattle.pq_key_code.specs.KeyCode.{row_key};
@@ -241,7 +241,7 @@ pub fn plan_counters<S: Store<L>, L: Ledger>(
     ensures answered { IfErr result (IsAnswered S.answers) }
     ensures undamaged { IfErr result (λ error. (rows : Rows) (others : List Pair)
         → HoldsCounted (S.content store.old) catalog.now rows others → IsUndamaged error) }
-    // At most as many changes as the counters add, each of a counter's key, whatever the store tells.
+    // At most as many changes as the counters add, each of a counter's key to a number, whatever the store tells.
     ensures plan { IfOk result (IsCountedWithin (all_moves (counters_in catalog.now) write.now)) }
     ensures can { IfOk result (RefusesAsFull catalog.now) }
     ensures answer { IfOk result (λ planned. (rows made : Rows) (others : List Pair)

@@ -8,14 +8,14 @@ ghost use Rattle.pq_calls.specs.World.{world, Affords, Reads, Explains, where_to
 ghost use Rattle.pq_index_keep.specs.Bounds.{most_changes, removers_of};
 ghost use Rattle.pq_index_keep.specs.Effects.{effect};
 ghost use Rattle.pq_pending.specs.Pending.{seen_content, seen_answers, RemovesAtMost};
-ghost use Rattle.pq_index_keep.specs.Promises.{ArePlanned, MakesRows, IsReadFor, FitsItsTable, IsNewFor, IsShortChange, IsShortWithin, RemovesFew};
+ghost use Rattle.pq_index_keep.specs.Promises.{ArePlanned, MakesRows, IsReadFor, FitsItsTable, HasOwn, IsNewFor, IsShortChange, IsShortWithin, RemovesFew};
 ghost use Rattle.pq_index_keep.specs.Sound.{IsWrite};
 ghost use Rattle.pq_tallies.specs.Counters.{counter_pairs, HoldsCounted};
 ghost use Rattle.pq_tallies.specs.Defined.{counters_in};
 ghost use Rattle.pq_counters.specs.Bounds.{counter_reads};
 ghost use Rattle.pq_counters.specs.Evidence.{ShowsCounted};
 ghost use Rattle.pq_counters.specs.Promises.{RefusesAsFull};
-ghost use Rattle.pq_counters.specs.Whole.{reads_behind, whole_changes, IsWholeWithin, RefusesWhole, PlansWhole};
+ghost use Rattle.pq_counters.specs.Whole.{reads_behind, whole_changes, IsWholeWithin, ChangesWhole, RefusesWhole, PlansWhole};
 
 use crate::plan::plan_by_rows;
 use pq_base::{List, NoMem, Row};
@@ -53,6 +53,7 @@ fn plan_more<S: Store<L>, L: Ledger>(
     requires write { IsWrite catalog.now.tables write.now }
     requires planned { ArePlanned (most_changes catalog.now.tables write.now) changes }
     requires short { All IsShortChange (map change_of changes) }
+    requires own { HasOwn catalog.now.tables write.now old.now (map change_of changes) }
     requires thin { RemovesAtMost (removers_of write.now) (map change_of changes) }
     requires read { IfSome (seen_content pending.now.changes (S.content store.old))
         (λ c. IsReadFor catalog.now.tables write.now c old.now) }
@@ -73,6 +74,8 @@ fn plan_more<S: Store<L>, L: Ledger>(
         → HoldsCounted (seen_content pending.now.changes (S.content store.old)) catalog.now rows others
         → IsUndamaged error) }
     ensures plan { IfOk result (IsWholeWithin (whole_changes catalog.now write.now)) }
+    ensures own { IfOk result
+        (ChangesWhole catalog.now (seen_content pending.now.changes (S.content store.old)) write.now) }
     ensures can { IfOk result (RefusesAsFull catalog.now) }
     ensures short { IfOk result IsShortWithin }
     ensures thin { IfOk result (RemovesFew write.now) }
@@ -123,9 +126,12 @@ pub fn plan_whole<S: Store<L>, L: Ledger>(
     ensures undamaged { IfErr result (λ error. (rows : Rows) (others : List Pair)
         → HoldsCounted (seen_content pending.now.changes (S.content store.old)) catalog.now rows others
         → IsUndamaged error) }
-    // Over every store, told or not: the changes are some that an intent can hold, short, and at most one removal of a
-    // sequence where the write removes pairs; and a refusal is one that the write can have.
+    // Over every store, told or not: the changes are some that an intent can hold, those of the row that was read and
+    // behind them numbers of counters, short, and at most one removal of a sequence where the write removes pairs; and
+    // a refusal is one that the write can have.
     ensures plan { IfOk result (IsWholeWithin (whole_changes catalog.now write.now)) }
+    ensures own { IfOk result
+        (ChangesWhole catalog.now (seen_content pending.now.changes (S.content store.old)) write.now) }
     ensures can { IfOk result (RefusesWhole catalog.now write.now) }
     ensures short { IfOk result IsShortWithin }
     ensures thin { IfOk result (RemovesFew write.now) }

@@ -1,11 +1,12 @@
 use Rattle.std.proofs.Common.{subst}
+use Rattle.pq_pending.specs.Pending.{seen_content}
 use Rattle.pq_tallies.specs.Defined.{counters_in}
 use Rattle.pq_index_keep.specs.Bounds.{removers_of}
 use Rattle.pq_index_keep.specs.declared.plan.Planned.TheVariants.{Changes}
 use Rattle.pq_counters.proofs.Short.{all_short, removes_same}
 use Rattle.pq_counters.specs.Bounds.{all_moves}
 use Rattle.pq_counters.specs.Promises.{Counts, IsCountedWithin}
-use Rattle.pq_counters.proofs.Joining.{are_whole, full_refused, whole_made}
+use Rattle.pq_counters.proofs.Joining.{are_whole, has_whole, full_refused, whole_made}
 use Rattle.pq_counters.proofs.whole.plan_more.Goals as goal
 
 pub returns-in-Ok-Refused-clause-answer : goal.returns-in-Ok-Refused-clause-answer
@@ -21,6 +22,12 @@ returns-in-Ok-clause-plan g c =
     let w = c.args.write.now in
     are_whole schema w c.args.changes c.in-Ok-Changes.more c.in-Ok.all c.known.ensures c.requires.write c.requires.planned
     (subst (IsCountedWithin (all_moves (counters_in schema) w)) c.in-Ok-Changes.field-0-is c.in-Ok-Changes.ensures.plan) c.in-Ok.ensures
+
+pub returns-in-Ok-clause-own : goal.returns-in-Ok-clause-own
+returns-in-Ok-clause-own g c =
+    let counted : IsCountedWithin (all_moves (counters_in c.args.catalog.now) c.args.write.now) (Changes c.in-Ok-Changes.more) = subst (IsCountedWithin (all_moves (counters_in c.args.catalog.now) c.args.write.now)) c.in-Ok-Changes.field-0-is c.in-Ok-Changes.ensures.plan in
+    has_whole c.args.catalog.now (seen_content c.args.pending.now.changes (g.S.Store.content c.args.store.now)) c.args.write.now c.args.old.now c.args.changes c.in-Ok-Changes.more c.in-Ok.all
+    c.requires.read c.requires.fits c.requires.own counted.each c.in-Ok.ensures
 
 pub returns-in-Ok-clause-answer : goal.returns-in-Ok-clause-answer
 returns-in-Ok-clause-answer g c = λ rows made others s is makes.
