@@ -1,3 +1,4 @@
 mod Codes
 mod Nexts
+mod Shown
 mod Worlds

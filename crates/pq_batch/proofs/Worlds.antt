@@ -7,7 +7,6 @@ use Rattle.std.proofs.lemmas.List.Sums.{sum_by-cons}
 use Rattle.pq_base.specs.declared.number.Bound.{Bound}
 use Rattle.pq_schema.specs.Schema.{Schema}
 use Rattle.pq_content.specs.Pairs.{Change}
-use Rattle.pq_store.specs.Breaks.{IsAnswered}
 use Rattle.pq_store.specs.Content.{Content, HasRisen}
 use Rattle.pq_store.specs.Counts.{Counts, AllowedCounts}
 use Rattle.pq_store.specs.declared.damage.Broke.{Broke}
@@ -17,13 +16,13 @@ use Rattle.pq_calls.specs.Calls.{Uses, Fails, seen_world}
 use Rattle.pq_calls.specs.World.{World, world, Affords, Reads, Explains}
 use Rattle.pq_calls.specs.declared.calls.Calls.{Calls}
 use Rattle.pq_calls.proofs.Steps.{reads_then, reads_within, rest_left}
-use Rattle.pq_pending.specs.Pending.{seen_content, seen_answers}
+use Rattle.pq_pending.specs.Pending.{seen_content}
 use Rattle.pq_index_keep.specs.Bounds.{removers_of}
 use Rattle.pq_index_keep.specs.Sound.{IsWrite}
 use Rattle.pq_index_keep.specs.declared.write.Write.{Write}
 use Rattle.pq_counters.specs.Whole.{reads_behind, whole_changes}
 use Rattle.pq_batch.specs.Batches.{both, batch_reads, batch_changes}
-use Rattle.pq_batch.specs.Promises.{ShowsBehind, AnswersBehind}
+use Rattle.pq_batch.specs.From.{ShowsSeen}
 
 -- ---- without the changes that were seen
 
@@ -42,25 +41,12 @@ module _ (changes : List Change) (told told' : Option Content) (faults faults' :
     few_entries = r.few_entries;
   }
 
-  plain_explains : (shows : Option Content → Damage → Type 0) (error : Broke) → Explains shows (world (seen_content changes told) faults allowed used) (world (seen_content changes told') faults' allowed' used') error
-      → Explains (ShowsBehind shows) (world told faults allowed used) (world told' faults' allowed' used') error
-  plain_explains shows Failed h = h
-  plain_explains shows NoMem h = h
-  plain_explains shows (Damaged damage) h = (changes, h)
-
   pub plain_causes : {A : Type 0} (shows : Option Content → Damage → Type 0) (result : Result A Broke) → IfErr result (Explains shows (world (seen_content changes told) faults allowed used) (world (seen_content changes told') faults' allowed' used'))
-      → IfErr result (Explains (ShowsBehind shows) (world told faults allowed used) (world told' faults' allowed' used'))
+      → IfErr result (Explains (ShowsSeen changes shows) (world told faults allowed used) (world told' faults' allowed' used'))
   plain_causes shows (Ok value) h = h
-  plain_causes shows (Err error) h = plain_explains shows error h
-
-plain_answered : (answers : List ℕ → Option (List ℕ) → Type 0) (changes : List Change) (error : Broke) → IsAnswered (seen_answers answers changes) error → IsAnswered (AnswersBehind answers) error
-plain_answered answers changes Failed h = h
-plain_answered answers changes NoMem h = h
-plain_answered answers changes (Damaged damage) h = (changes, h)
-
-pub plain_answers : {A : Type 0} (answers : List ℕ → Option (List ℕ) → Type 0) (changes : List Change) (result : Result A Broke) → IfErr result (IsAnswered (seen_answers answers changes)) → IfErr result (IsAnswered (AnswersBehind answers))
-plain_answers answers changes (Ok value) h = h
-plain_answers answers changes (Err error) h = plain_answered answers changes error h
+  plain_causes shows (Err Failed) h = h
+  plain_causes shows (Err NoMem) h = h
+  plain_causes shows (Err (Damaged damage)) h = h
 
 -- ---- a later cause
 

@@ -1,5 +1,5 @@
 -- What the plan of the writes of a batch from a place on promises, behind the changes of those before.
-use Rattle.std.specs.Prelude.{◌≡◌, ℕ, ◌+◌, ◌<◌, ◌≤◌, List, map, length, slice_get, Some, Result, Err, MatchResult, All}
+use Rattle.std.specs.Prelude.{◌≡◌, ℕ, ◌+◌, ◌<◌, ◌≤◌, List, map, length, slice_get, Option, None, Some, Result, Err, MatchResult, All}
 use Rattle.pq_base.specs.declared.refusal.Refusal.{Refusal}
 use Rattle.pq_row_code.specs.declared.changes.Change.{Change as Coded}
 use Rattle.pq_schema.specs.Schema.{Schema}
@@ -7,11 +7,14 @@ use Rattle.pq_content.specs.Pairs.{Change, Pair, changed_content}
 use Rattle.pq_content.specs.Standing.{change_of, AreIntended}
 use Rattle.pq_content.specs.Tables.{Rows, Keeps}
 use Rattle.pq_store.specs.Content.{Content}
+use Rattle.pq_store.specs.declared.damage.Damage.{Damage}
+use Rattle.pq_pending.specs.Pending.{seen_content, seen_answers}
 use Rattle.pq_index_keep.specs.Promises.{IsShortChange}
 use Rattle.pq_index_keep.specs.declared.write.Write.{Write}
 use Rattle.pq_tallies.specs.Counters.{all_pairs, AreFewRows}
 use Rattle.pq_tallies.specs.Defined.{counters_in}
 use Rattle.pq_counters.specs.Whole.{CanRefuseWhole}
+use Rattle.pq_batch.specs.Promises.{AreOfWritesBefore}
 use Rattle.pq_batch.specs.Batches.{Unmade, InBatch, TooLong, made_from, unless_long, changes_length}
 use Rattle.pq_batch.specs.declared.plan.PlannedBatch.{PlannedBatch}
 use Rattle.pq_batch.specs.declared.plan.PlannedBatch.TheVariants as planned
@@ -59,3 +62,20 @@ abbrev pub RefusesFrom : Schema → List Write → ℕ → PlannedBatch → Type
 RefusesFrom schema writes first (planned.Changes changes) = Unit {0}
 RefusesFrom schema writes first (planned.Refused place cause) = CanRefuseFrom schema writes first place cause
 RefusesFrom schema writes first (planned.TooLong length) = 1048576 < length
+
+-- ---- damage behind the changes of those before
+
+-- it shows in the content with these changes
+abbrev pub ShowsSeen : List Change → (Option Content → Damage → Type 0) → Option Content → Damage → Type 0
+ShowsSeen changes shows told damage = shows (seen_content changes told) damage
+
+-- or with those of some of the writes behind them
+abbrev pub ShowsFrom : Schema → List Write → List Change → (Option Content → Damage → Type 0) → Option Content → Damage
+    → Type 0
+ShowsFrom schema writes before shows told damage = (changes : List Change)
+    × AreOfWritesBefore schema told writes before changes × shows (seen_content changes told) damage
+
+abbrev pub AnswersFrom : Schema → List Write → List Change → (List ℕ → Option (List ℕ) → Type 0) → List ℕ
+    → Option (List ℕ) → Type 0
+AnswersFrom schema writes before answers key value = (changes : List Change)
+    × AreOfWritesBefore schema None writes before changes × seen_answers answers changes key value

@@ -1,5 +1,5 @@
 -- What the plan of a batch promises.
-use Rattle.std.specs.Prelude.{◌≡◌, ℕ, ◌+◌, ◌<◌, ◌≤◌, List, map, length, Option, slice_get, Some, Err, MatchResult}
+use Rattle.std.specs.Prelude.{◌≡◌, ℕ, ◌+◌, ◌<◌, ◌≤◌, List, [], ◌∷◌, map, take, length, Option, slice_get, None, Some, Err, MatchResult}
 use Rattle.std.specs.List.{AllByRecursion}
 use Rattle.pq_base.specs.declared.refusal.Refusal.{Refusal}
 use Rattle.pq_row_code.specs.declared.changes.Change.{Change as Coded}
@@ -9,12 +9,12 @@ use Rattle.pq_content.specs.Standing.{change_of}
 use Rattle.pq_content.specs.Tables.{Rows, Keeps}
 use Rattle.pq_store.specs.Content.{Content}
 use Rattle.pq_store.specs.declared.damage.Damage.{Damage}
-use Rattle.pq_pending.specs.Pending.{seen_content, seen_answers}
+use Rattle.pq_pending.specs.Pending.{seen_content, seen_answers, with_changes}
 use Rattle.pq_index_keep.specs.Sound.{IsWrite}
 use Rattle.pq_index_keep.specs.declared.write.Write.{Write}
 use Rattle.pq_tallies.specs.Counters.{all_pairs, AreFewRows}
 use Rattle.pq_tallies.specs.Defined.{counters_in}
-use Rattle.pq_counters.specs.Whole.{AreWhole, CanRefuseWhole}
+use Rattle.pq_counters.specs.Whole.{AreWhole, CanRefuseWhole, HasWhole}
 use Rattle.pq_batch.specs.Batches.{batch_effect, InBatch, TooLong}
 use Rattle.pq_batch.specs.declared.plan.PlannedBatch.{PlannedBatch}
 use Rattle.pq_batch.specs.declared.plan.PlannedBatch.TheVariants as planned
@@ -61,10 +61,28 @@ RefusesBatch schema writes (planned.TooLong length) = 1048576 < length
 
 -- ---- damage that is told behind the changes of some writes
 
--- it shows in the content with the changes made
-abbrev pub ShowsBehind : (Option Content → Damage → Type 0) → Option Content → Damage → Type 0
-ShowsBehind shows told damage = (changes : List Change) × shows (seen_content changes told) damage
+-- the second changes are the first ones and behind them those of the writes, one after the other: each write's are of
+-- the row that it finds in the content with the changes of those before it
+abbrev pub AreBehind : Schema → Option Content → List Write → List Change → List Change → Type 0
+AreBehind schema told [] before after = after ≡ before
+AreBehind schema told (write ∷ writes) before after = (changes : List Coded)
+    × HasWhole schema (seen_content before told) write changes
+    × AreBehind schema told writes (with_changes before (map change_of changes)) after
 
--- its value is what a change gives the key, or what the store may answer
-abbrev pub AnswersBehind : (List ℕ → Option (List ℕ) → Type 0) → List ℕ → Option (List ℕ) → Type 0
-AnswersBehind answers key value = (changes : List Change) × seen_answers answers changes key value
+-- the changes behind the first ones are those of the writes before one of these
+pub record AreOfWritesBefore (schema : Schema) (told : Option Content) (writes : List Write)
+    (before after : List Change) : Type 0 where
+  pub place : ℕ
+  pub within : place < length writes
+  pub made : AreBehind schema told (take place writes) before after
+
+-- it shows in the content with the changes of the writes before the one at hand
+abbrev pub ShowsBehind : Schema → List Write → (Option Content → Damage → Type 0) → Option Content → Damage → Type 0
+ShowsBehind schema writes shows told damage = (changes : List Change)
+    × AreOfWritesBefore schema told writes [] changes × shows (seen_content changes told) damage
+
+-- its value is what such a change gives the key, or what the store may answer
+abbrev pub AnswersBehind : Schema → List Write → (List ℕ → Option (List ℕ) → Type 0) → List ℕ → Option (List ℕ)
+    → Type 0
+AnswersBehind schema writes answers key value = (changes : List Change)
+    × AreOfWritesBefore schema None writes [] changes × seen_answers answers changes key value

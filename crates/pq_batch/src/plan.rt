@@ -8,14 +8,14 @@ ghost use Rattle.pq_store.specs.Breaks.{IsUndamaged, IsAnswered};
 ghost use Rattle.pq_store.specs.Content.{Content};
 ghost use Rattle.pq_calls.specs.Calls.{Uses, Fails};
 ghost use Rattle.pq_calls.specs.World.{world, Affords, Reads, Explains, where_told};
-ghost use Rattle.pq_pending.specs.Pending.{seen_content};
+ghost use Rattle.pq_pending.specs.Pending.{seen_content, seen_answers};
 ghost use Rattle.pq_index_keep.specs.Promises.{IsShortWithin, RemovesFew};
 ghost use Rattle.pq_index_keep.specs.Sound.{IsWrite};
 ghost use Rattle.pq_tallies.specs.Counters.{HoldsCounted};
 ghost use Rattle.pq_counters.specs.Evidence.{ShowsCounted};
-ghost use Rattle.pq_counters.specs.Whole.{reads_behind, whole_changes, IsWholeWithin, RefusesWhole, PlansWhole};
+ghost use Rattle.pq_counters.specs.Whole.{reads_behind, whole_changes, IsWholeWithin, ChangesWhole, RefusesWhole, PlansWhole};
 ghost use Rattle.pq_batch.specs.Batches.{batch_bound, batch_changes, batch_reads};
-ghost use Rattle.pq_batch.specs.From.{AreAhead, FinishesAs, PlansFrom, RefusesFrom};
+ghost use Rattle.pq_batch.specs.From.{AreAhead, FinishesAs, PlansFrom, RefusesFrom, ShowsSeen, ShowsFrom, AnswersFrom};
 ghost use Rattle.pq_batch.specs.Promises.{IsBatch, IsBatchWithin, RefusesBatch, PlansBatch, ShowsBehind, AnswersBehind};
 
 use crate::bound::removers_of;
@@ -74,13 +74,15 @@ fn plan_next<S: Store<L>, L: Ledger>(
     ensures uses { Uses S.content S.faults calls.old calls.new
         (reads_behind pending.now.removers catalog.now write.now).ops
         (reads_behind pending.now.removers catalog.now write.now).entries }
-    ensures cause { IfErr result (Fails (ShowsBehind (where_told (ShowsCounted catalog.now))) S.content S.faults
-        calls.old calls.new) }
-    ensures answered { IfErr result (IsAnswered (AnswersBehind S.answers)) }
+    ensures cause { IfErr result (Fails (ShowsSeen pending.now.changes (where_told (ShowsCounted catalog.now)))
+        S.content S.faults calls.old calls.new) }
+    ensures answered { IfErr result (IsAnswered (seen_answers S.answers pending.now.changes)) }
     ensures undamaged { IfErr result (λ error. (rows : Rows) (others : List Pair)
         → HoldsCounted (seen_content pending.now.changes (S.content calls.old.store.now)) catalog.now rows others
         → IsUndamaged error) }
     ensures plan { IfOk result (IsWholeWithin (whole_changes catalog.now write.now)) }
+    ensures own { IfOk result
+        (ChangesWhole catalog.now (seen_content pending.now.changes (S.content calls.old.store.now)) write.now) }
     ensures can { IfOk result (RefusesWhole catalog.now write.now) }
     ensures short { IfOk result IsShortWithin }
     ensures thin { IfOk result (RemovesFew write.now) }
@@ -120,9 +122,9 @@ fn plan_from<S: Store<L>, L: Ledger>(
     ensures uses { Uses S.content S.faults calls.old calls.new
         (batch_reads catalog.now pending.removers writes.now).ops
         (batch_reads catalog.now pending.removers writes.now).entries }
-    ensures cause { IfErr result (Fails (ShowsBehind (where_told (ShowsCounted catalog.now))) S.content S.faults
-        calls.old calls.new) }
-    ensures answered { IfErr result (IsAnswered (AnswersBehind S.answers)) }
+    ensures cause { IfErr result (Fails (ShowsFrom catalog.now writes.now pending.changes
+        (where_told (ShowsCounted catalog.now))) S.content S.faults calls.old calls.new) }
+    ensures answered { IfErr result (IsAnswered (AnswersFrom catalog.now writes.now pending.changes S.answers)) }
     ensures undamaged { IfErr result (λ error. (rows : Rows) (others : List Pair)
         → HoldsCounted (seen_content pending.changes (S.content calls.old.store.now)) catalog.now rows others
         → IsUndamaged error) }
@@ -164,10 +166,10 @@ pub fn plan_batch<S: Store<L>, L: Ledger>(
         (world (S.content store.new) (S.faults store.new) allowance.new meter.new)
         (batch_reads catalog.now 0 writes.now).ops (batch_reads catalog.now 0 writes.now).entries }
     ensures left { Affords allowance.new (write_ops (batch_changes catalog.now writes.now)) 0 }
-    ensures cause { IfErr result (Explains (ShowsBehind (where_told (ShowsCounted catalog.now)))
+    ensures cause { IfErr result (Explains (ShowsBehind catalog.now writes.now (where_told (ShowsCounted catalog.now)))
         (world (S.content store.old) (S.faults store.old) allowance.old meter.old)
         (world (S.content store.new) (S.faults store.new) allowance.new meter.new)) }
-    ensures answered { IfErr result (IsAnswered (AnswersBehind S.answers)) }
+    ensures answered { IfErr result (IsAnswered (AnswersBehind catalog.now writes.now S.answers)) }
     ensures undamaged { IfErr result (λ error. (rows : Rows) (others : List Pair)
         → HoldsCounted (S.content store.old) catalog.now rows others → IsUndamaged error) }
     // Over every store, told or not: the changes are some that an intent can hold, and a refusal is one that the write

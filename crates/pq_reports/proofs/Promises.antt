@@ -1,5 +1,5 @@
 -- Steps that change nothing, and the clauses on the step of a piece.
-use Rattle.std.proofs.Common.{◌≡◌, ℕ, ◌⊎◌, Bool, true, false, List, [], Option, Some, None, Result, Ok, Err, if◌then◌else◌, refl, sym, ap, ◌∙◌, subst, arith, inl, lit≤}
+use Rattle.std.proofs.Common.{◌≡◌, ℕ, ◌⊎◌, Bool, true, false, List, Option, Some, None, Result, Ok, Err, if◌then◌else◌, refl, sym, ap, ◌∙◌, subst, arith, inl, lit≤}
 use Rattle.std.specs.Prelude.{◌+◌, ◌*◌, ◌≤◌, nat_le, IfOk, IfErr, IfSome, OnErr}
 use Rattle.std.proofs.lemmas.Bool.{leb-true}
 use Rattle.std.proofs.lemmas.Option.{none-some, same_Some}
@@ -82,7 +82,7 @@ evidence_for (Err why) schema content damage shows = shows
 evidence_for (Ok (Creates table)) schema content damage shows = shows
 evidence_for (Ok (Adds def)) schema content damage shows = shows
 evidence_for (Ok (Writes write)) schema content damage shows = shows
-evidence_for (Ok (Batches writes)) schema content damage shows = ([], shows)
+evidence_for (Ok (Batches writes)) schema content damage shows = inl shows
 evidence_for (Ok (Misreads place cause)) schema content damage shows = shows
 evidence_for (Ok (Prepares plan)) schema content damage shows = shows
 evidence_for (Ok (Explains plan)) schema content damage shows = shows
@@ -433,6 +433,10 @@ module _ (number : ℕ) (piece : Piece) (old now : Option Content) (schema : Sch
   pub promised_kept : (result : Result (Schema × Report) Broke) → Promised result → IfErr result (KeepsDamaged schema (action_of schema piece) old now)
   promised_kept (Ok made) p = tt
   promised_kept (Err broke) p = p.kept
+
+  pub promised_memory : (result : Result (Schema × Report) Broke) → Promised result → IfErr result (λ broke. (m : Model) → Stands old schema m → LacksMemory (action_of schema piece) old now broke)
+  promised_memory (Ok made) p = tt
+  promised_memory (Err broke) p = p.memory
 
   pub promised_can : (result : Result (Schema × Report) Broke) → Promised result → IfOk result (λ p. CanEnd schema (action_of schema piece) p.1.end)
   promised_can (Ok made) p = p.can

@@ -1,8 +1,8 @@
 -- What shows damage in a content, and of what it is told.
-use Rattle.std.specs.Prelude.{ℕ, ◌+◌, ◌⊎◌, List, length, Option, Result, Ok}
+use Rattle.std.specs.Prelude.{ℕ, ◌+◌, ◌⊎◌, List, length, Option, Some, Result, Ok}
 use Rattle.pq_base.specs.declared.refusal.Refusal.{Refusal}
-use Rattle.pq_batch.specs.Promises.{AnswersBehind}
-use Rattle.pq_content.specs.Pairs.{Change, changed_content}
+use Rattle.pq_batch.specs.Promises.{AnswersBehind, ShowsBehind}
+use Rattle.pq_calls.specs.World.{where_told}
 use Rattle.pq_key_code.specs.KeyCode.{catalog_key, intent_key}
 use Rattle.pq_schema.specs.Schema.{Schema}
 use Rattle.pq_store.specs.Breaks.{IfDamaged, IsPresent}
@@ -28,17 +28,18 @@ TellsEvidence schema content = IfDamaged (IsEvidence schema content)
 
 -- ---- by what was asked for
 
--- a batch finds it in the content with the changes of the writes before the one at hand
+-- it shows in the content; for a batch there, or in that content with the changes of the writes before the one at hand
 abbrev pub IsEvidenceFor : Result Action Refusal → Schema → Content → Damage → Type 0
 IsEvidenceFor (Ok (Batches writes)) schema content damage =
-    (changes : List Change) × IsEvidence schema (changed_content changes content) damage
+    IsEvidence schema content damage ⊎ ShowsBehind schema writes (where_told (IsEvidence schema)) (Some content) damage
 IsEvidenceFor asked schema content damage = IsEvidence schema content damage
 
 abbrev pub TellsEvidenceFor : Result Action Refusal → Schema → Content → Broke → Type 0
 TellsEvidenceFor asked schema content = IfDamaged (IsEvidenceFor asked schema content)
 
--- and to a batch the changes of the writes before answer for their keys
-abbrev pub AnswersFor : Result Action Refusal → (List ℕ → Option (List ℕ) → Type 0) → List ℕ → Option (List ℕ)
-    → Type 0
-AnswersFor (Ok (Batches writes)) answers key value = AnswersBehind answers key value
-AnswersFor asked answers key value = answers key value
+-- its value is one that a call may answer, or for a batch one that such a change gives its key
+abbrev pub AnswersFor : Schema → Result Action Refusal → (List ℕ → Option (List ℕ) → Type 0) → List ℕ
+    → Option (List ℕ) → Type 0
+AnswersFor schema (Ok (Batches writes)) answers key value =
+    answers key value ⊎ AnswersBehind schema writes answers key value
+AnswersFor schema asked answers key value = answers key value

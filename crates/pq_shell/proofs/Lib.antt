@@ -1,4 +1,3 @@
-pub mod Answering
 pub mod Counting
 pub mod Ending
 pub mod Filled

@@ -7,7 +7,7 @@ use Rattle.pq_fill.specs.declared.words.Form.{Form}
 use Rattle.pq_fill.specs.declared.words.Form.TheVariants.{Run, Check, Fill}
 use Rattle.pq_schema.specs.Schema.{Schema}
 use Rattle.pq_schema.specs.declared.query.Query.{Query}
-use Rattle.pq_store.specs.Breaks.{IfDamaged, IsUndamaged}
+use Rattle.pq_store.specs.Breaks.{IsAnsweredBut, IsUndamaged}
 use Rattle.pq_store.specs.Content.{Content}
 use Rattle.pq_store.specs.Counts.{Counts}
 use Rattle.pq_intent.specs.Spending.{TakesAtMost}
@@ -24,13 +24,12 @@ use Rattle.pq_reports.specs.Evidence.{AnswersFor, TellsEvidenceFor}
 use Rattle.pq_reports.specs.Matches.{Matches}
 use Rattle.pq_catalog.specs.Model.{Model}
 use Rattle.pq_reports.specs.Promise.{IsBound, IsRefusal, IsWithinFixed, KeepsDamaged, OnlyReads}
-use Rattle.pq_catalog.specs.Stands.{Opens, Stands}
+use Rattle.pq_catalog.specs.Stands.{Opens, Stands, next_key}
 use Rattle.pq_reports.specs.Refusing.{CanEnd, IsUnread}
 use Rattle.pq_reports.specs.Step.{Step, step}
 use Rattle.pq_check.specs.Written.{IsPrepareOf, IsDefinedAs}
 use Rattle.pq_check.proofs.Checked.{check_by, is_check_step}
 use Rattle.pq_reports.proofs.Promises.{within_none}
-use Rattle.pq_shell.specs.Answered.{IsAnsweredDamage}
 use Rattle.pq_shell.specs.Fold.{DefinesAsWritten, IsStill}
 use Rattle.pq_shell.specs.Forms.{HasOpening, StandsIn, OpensAt, item_step, shown_report}
 use Rattle.pq_shell.specs.Items.{Cut}
@@ -98,7 +97,7 @@ module _ (number : ℕ) (piece : Piece) (s : Schema) (old now : Option Content) 
   broke_at : {answers : List ℕ → Option (List ℕ) → Type 0} (f : Form) (error : Broke) → HasOpening f → ((m : Model) → StandsIn f old s m → OpensAt f now m ⊎ OpensAt f now (item_step f m number (Cut piece)).model)
       → ((m : Model) → StandsIn f old s m → IsUndamaged error) → IsWithinFixed (statement_bound s piece) before after → IfSome now (λ content. TellsEvidenceFor (action_of s piece) s content error)
       → ((m : Model) → StandsIn f old s m → TakesAtMost (item_step f m number (Cut piece)).report.bound before after)
-      → KeepsDamaged s (action_of s piece) old now error → IfDamaged (λ damage. IsAnsweredDamage (AnswersFor (action_of s piece) answers) damage) error → BreaksAt answers f (stop_of_broke error) (Cut piece) number s old now before after
+      → KeepsDamaged s (action_of s piece) old now error → IsAnsweredBut (AnswersFor s (action_of s piece) answers) (next_key s) error → BreaksAt answers f (stop_of_broke error) (Cut piece) number s old now before after
   broke_at f broke.Failed some stops_at sound within shown own kept answered held =
       Stopped-at f stops.StoreFailed s (moment old held before) (moment now held after) number (Cut piece ∷ []) [] (sym (append_known-none held)) (some, refl, within) tt tt tt stops_at own
   broke_at f broke.NoMem some stops_at sound within shown own kept answered held =
@@ -110,7 +109,7 @@ module _ (number : ℕ) (piece : Piece) (s : Schema) (old now : Option Content) 
   pub broke_over : {answers : List ℕ → Option (List ℕ) → Type 0} (f : Form) (error : Broke) → HasOpening f → ((m : Model) → Stands old s m → Opens now m ⊎ Opens now (step m number piece).model) → ((m : Model) → Stands old s m → IsUndamaged error)
       → IsWithinFixed (statement_bound s piece) before after → IfSome now (λ content. TellsEvidenceFor (action_of s piece) s content error)
       → ((m : Model) → Stands old s m → TakesAtMost (step m number piece).report.bound before after)
-      → KeepsDamaged s (action_of s piece) old now error → IfDamaged (λ damage. IsAnsweredDamage (AnswersFor (action_of s piece) answers) damage) error → BreaksAt answers f (stop_of_broke error) (Cut piece) number s old now before after
+      → KeepsDamaged s (action_of s piece) old now error → IsAnsweredBut (AnswersFor s (action_of s piece) answers) (next_key s) error → BreaksAt answers f (stop_of_broke error) (Cut piece) number s old now before after
   broke_over Run error some stops_at sound within shown own kept answered = broke_at Run error some stops_at sound within shown own kept answered
   broke_over Check error some stops_at sound within shown own kept answered = absurd some
   broke_over (Fill n) error some stops_at sound within shown own kept answered = broke_at (Fill n) error some stops_at sound within shown own kept answered

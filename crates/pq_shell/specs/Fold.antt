@@ -105,7 +105,7 @@ AnswersItem answers stops.WriteFailed schema todo = Unit {0}
 AnswersItem answers stops.NoMem schema todo = Unit {0}
 AnswersItem answers (stops.Damaged damage) schema [] = ⊥
 AnswersItem answers (stops.Damaged damage) schema (item ∷ items) =
-    IsAnsweredFor answers (asked_item schema item) (stops.Damaged damage)
+    IsAnsweredFor schema answers (asked_item schema item) damage
 
 -- ---- what is left of the content, whether it stands for a model or not
 

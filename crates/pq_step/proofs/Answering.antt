@@ -1,8 +1,8 @@
 -- What a call may answer is what it may by whatever was asked for.
-use Rattle.std.proofs.Common.{◌≡◌, ℕ, List, [], Option, Result, Ok, Err, inl, inr}
+use Rattle.std.proofs.Common.{◌≡◌, ℕ, List, Option, Result, Ok, Err, inl, inr}
 use Rattle.std.specs.Prelude.{IfErr}
 use Rattle.pq_base.specs.declared.refusal.Refusal.{Refusal}
-use Rattle.pq_batch.specs.Promises.{AnswersBehind}
+use Rattle.pq_schema.specs.Schema.{Schema}
 use Rattle.pq_store.specs.Breaks.{IsAnswered, IsAnsweredBut}
 use Rattle.pq_store.specs.declared.damage.Broke.{Broke}
 use Rattle.pq_store.specs.declared.damage.Broke.TheVariants as broke
@@ -10,13 +10,13 @@ use Rattle.pq_statement.specs.Actions as action
 use Rattle.pq_statement.specs.Actions.{Action, Creates, Adds, Writes, Batches, Misreads, Prepares, Explains, Runs, Reads, Shows, Selects}
 use Rattle.pq_reports.specs.Evidence.{AnswersFor}
 
-module _ (answers : List ℕ → Option (List ℕ) → Type 0) where
-  answers_for : (asked : Result Action Refusal) (key : List ℕ) (value : Option (List ℕ)) → answers key value → AnswersFor asked answers key value
+module _ (schema : Schema) (answers : List ℕ → Option (List ℕ) → Type 0) where
+  answers_for : (asked : Result Action Refusal) (key : List ℕ) (value : Option (List ℕ)) → answers key value → AnswersFor schema asked answers key value
   answers_for (Err why) key value told = told
   answers_for (Ok (Creates table)) key value told = told
   answers_for (Ok (Adds def)) key value told = told
   answers_for (Ok (Writes write)) key value told = told
-  answers_for (Ok (Batches writes)) key value told = ([], told)
+  answers_for (Ok (Batches writes)) key value told = inl told
   answers_for (Ok (Misreads place cause)) key value told = told
   answers_for (Ok (Prepares plan)) key value told = told
   answers_for (Ok (Explains plan)) key value told = told
@@ -28,21 +28,21 @@ module _ (answers : List ℕ → Option (List ℕ) → Type 0) where
 
   module _ {A : Type 0} (asked : Result Action Refusal) (next : List ℕ) where
     -- or of a definition's key
-    pub answered_but : (result : Result A Broke) → IfErr result (IsAnsweredBut answers next) → IfErr result (IsAnsweredBut (AnswersFor asked answers) next)
+    pub answered_but : (result : Result A Broke) → IfErr result (IsAnsweredBut answers next) → IfErr result (IsAnsweredBut (AnswersFor schema asked answers) next)
     answered_but (Ok made) told = tt
     answered_but (Err broke.Failed) told = tt
     answered_but (Err broke.NoMem) told = tt
     answered_but (Err (broke.Damaged damage)) (inl told) = inl (answers_for asked damage.key damage.value told)
     answered_but (Err (broke.Damaged damage)) (inr of) = inr of
 
-    pub answered_for : (result : Result A Broke) → IfErr result (IsAnswered answers) → IfErr result (IsAnsweredBut (AnswersFor asked answers) next)
+    pub answered_for : (result : Result A Broke) → IfErr result (IsAnswered answers) → IfErr result (IsAnsweredBut (AnswersFor schema asked answers) next)
     answered_for (Ok made) told = tt
     answered_for (Err broke.Failed) told = tt
     answered_for (Err broke.NoMem) told = tt
     answered_for (Err (broke.Damaged damage)) told = inl (answers_for asked damage.key damage.value told)
 
-  -- of a batch, behind the changes of the writes before
-  pub batch_answered : {A : Type 0} (asked : Result Action Refusal) (writes : _) (next : List ℕ) → asked ≡ Ok (Batches writes) → (result : Result A Broke) → IfErr result (IsAnswered (AnswersBehind answers)) → IfErr result (IsAnsweredBut (AnswersFor asked answers) next)
+  -- of a batch
+  pub batch_answered : {A : Type 0} (asked : Result Action Refusal) (writes : _) (next : List ℕ) → asked ≡ Ok (Batches writes) → (result : Result A Broke) → IfErr result (IsAnswered (AnswersFor schema (Ok (Batches writes)) answers)) → IfErr result (IsAnsweredBut (AnswersFor schema asked answers) next)
   batch_answered asked writes next is (Ok made) told = tt
   batch_answered asked writes next is (Err broke.Failed) told = tt
   batch_answered asked writes next is (Err broke.NoMem) told = tt

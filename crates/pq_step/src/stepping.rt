@@ -8,7 +8,7 @@ ghost use Rattle.pq_store.specs.Breaks.{IsUndamaged, IsAnsweredBut};
 ghost use Rattle.pq_reports.specs.Matches.{Matches};
 ghost use Rattle.pq_reports.specs.Evidence.{AnswersFor, TellsEvidenceFor};
 ghost use Rattle.pq_statement.specs.Actions.{Action, action_of, schema_after, statement_bound};
-ghost use Rattle.pq_reports.specs.Promise.{Promises, IsBound, IsRefusal, IsWithinFixed, KeepsDamaged, OnlyReads};
+ghost use Rattle.pq_reports.specs.Promise.{Promises, IsBound, IsRefusal, IsWithinFixed, KeepsDamaged, LacksMemory, OnlyReads};
 ghost use Rattle.pq_reports.specs.Refusing.{CanEnd, IsUnread};
 ghost use Rattle.pq_statement.specs.Requests.{Asks, IsRequest};
 ghost use Rattle.pq_catalog.specs.Stands.{Stands, Opens, next_key};
@@ -79,6 +79,9 @@ pub fn statement<S: Store<L>, L: Ledger>(
         → Opens (S.content store.new) m ⊎ Opens (S.content store.new) (step m number piece.now).model) }
     ensures damage { IfErr result (λ broke. (m : Tables) → Stands (S.content store.old) planned m
         → IsUndamaged broke) }
+    // A write or a batch for which memory is wanting isn't made: nothing is changed, or its intent stands.
+    ensures memory { IfErr result (λ broke. (m : Tables) → Stands (S.content store.old) planned m
+        → LacksMemory (action_of planned piece.now) (S.content store.old) (S.content store.new) broke) }
     // Damage leaves the content as it was; but an index that was being made is left as it is, with its mark.
     ensures kept { IfErr result (KeepsDamaged planned (action_of planned piece.now) (S.content store.old)
         (S.content store.new)) }
@@ -91,7 +94,7 @@ pub fn statement<S: Store<L>, L: Ledger>(
     ensures cause { HasBrokeCause (S.faults store.old) (S.faults store.new) result }
     // Damage is told of what a call answered, in a batch behind the changes of the writes before; or, where an index
     // is made, of its definition's key alone.
-    ensures answered { IfErr result (IsAnsweredBut (AnswersFor (action_of planned piece.now) S.answers)
+    ensures answered { IfErr result (IsAnsweredBut (AnswersFor planned (action_of planned piece.now) S.answers)
         (next_key planned)) }
 {
     planned.known();
@@ -110,7 +113,7 @@ fn make_piece<S: Store<L>, L: Ledger>(
     ensures step { Promises number (action_of planned piece.now) (S.content store.old) (S.content store.new) planned
         meter.old meter.new result }
     ensures cause { HasBrokeCause (S.faults store.old) (S.faults store.new) result }
-    ensures answered { IfErr result (IsAnsweredBut (AnswersFor (action_of planned piece.now) S.answers)
+    ensures answered { IfErr result (IsAnsweredBut (AnswersFor planned (action_of planned piece.now) S.answers)
         (next_key planned)) }
 {
     match request_of(alloc, &planned, piece) {
@@ -134,7 +137,7 @@ fn act<S: Store<L>, L: Ledger>(
         → Promises number asked (S.content store.old) (S.content store.new) planned meter.old meter.new result }
     ensures cause { HasBrokeCause (S.faults store.old) (S.faults store.new) result }
     ensures answered { (asked : Result Action Refusal) → Asks planned request asked
-        → IfErr result (IsAnsweredBut (AnswersFor asked S.answers) (next_key planned)) }
+        → IfErr result (IsAnsweredBut (AnswersFor planned asked S.answers) (next_key planned)) }
 {
     match request {
         Request::Create(def) => create(alloc, planned, number, def, store, meter),

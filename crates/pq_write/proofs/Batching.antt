@@ -25,7 +25,7 @@ use Rattle.pq_calls.specs.World.{world, Explains, Reads, where_told}
 use Rattle.pq_nodes.specs.Operators.{no_row}
 use Rattle.pq_catalog.specs.Model.{Model}
 use Rattle.pq_statement.specs.Actions.{Batches}
-use Rattle.pq_reports.specs.Evidence.{IsEvidence, TellsEvidenceFor}
+use Rattle.pq_reports.specs.Evidence.{AnswersFor, IsEvidence, TellsEvidenceFor}
 use Rattle.pq_reports.specs.Promise.{LacksMemory}
 use Rattle.pq_reports.specs.Refusing.{CanEnd}
 use Rattle.pq_reports.specs.Step.{action_step, batch_step, batched_as, report_of, report_step, unmade_end}
@@ -94,15 +94,21 @@ counted_evidence schema content damage (inr counted) = inr (inl counted)
 
 -- what explains damage shows it, in the content with the changes of the writes before
 pub batch_shown : (writes : List Write) (old : Option Content) (schema : Schema) (error : Broke) (f0 f1 : ℕ) (given left : AllowedCounts) (before after : Counts) (now : Option Content) (ops entries : ℕ) → Reads (world old f0 given before) (world now f1 left after) ops entries
-    → Explains (ShowsBehind (where_told (ShowsCounted schema))) (world old f0 given before) (world now f1 left after) error → IfSome old (λ content. TellsEvidenceFor (Ok (Batches writes)) schema content error)
+    → Explains (ShowsBehind schema writes (where_told (ShowsCounted schema))) (world old f0 given before) (world now f1 left after) error → IfSome old (λ content. TellsEvidenceFor (Ok (Batches writes)) schema content error)
 batch_shown writes None schema error f0 f1 given left before after now ops entries reads explains = tt
 batch_shown writes (Some content) schema broke.Failed f0 f1 given left before after now ops entries reads explains = tt
 batch_shown writes (Some content) schema broke.NoMem f0 f1 given left before after now ops entries reads explains = tt
 batch_shown writes (Some content) schema (broke.Damaged damage) f0 f1 given left before after now ops entries reads explains =
-    (explains.0, counted_evidence schema (changed_content explains.0 content) damage explains.1)
+    inr (explains.0, explains.1, counted_evidence schema (changed_content explains.0 content) damage explains.2)
 
--- what a call may answer is what one behind no changes may
-pub behind_answered : (answers : List ℕ → Option (List ℕ) → Type 0) (error : Broke) → IsAnswered answers error → IsAnswered (AnswersBehind answers) error
-behind_answered answers broke.Failed told = tt
-behind_answered answers broke.NoMem told = tt
-behind_answered answers (broke.Damaged damage) told = ([], told)
+-- what a call may answer is what one of a batch may, behind the changes of the writes before or behind none
+module _ (schema : Schema) (writes : List Write) (answers : List ℕ → Option (List ℕ) → Type 0) where
+  pub plain_answered : (error : Broke) → IsAnswered answers error → IsAnswered (AnswersFor schema (Ok (Batches writes)) answers) error
+  plain_answered broke.Failed told = tt
+  plain_answered broke.NoMem told = tt
+  plain_answered (broke.Damaged damage) told = inl told
+
+  pub behind_answered : (error : Broke) → IsAnswered (AnswersBehind schema writes answers) error → IsAnswered (AnswersFor schema (Ok (Batches writes)) answers) error
+  behind_answered broke.Failed told = tt
+  behind_answered broke.NoMem told = tt
+  behind_answered (broke.Damaged damage) told = inr told

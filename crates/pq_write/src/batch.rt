@@ -1,9 +1,10 @@
 //! BATCH.
 ghost use Rattle.std.specs.Prelude.{IfErr, Ok};
-ghost use Rattle.pq_batch.specs.Promises.{AnswersBehind, IsBatch};
+ghost use Rattle.pq_batch.specs.Promises.{IsBatch};
 ghost use Rattle.pq_store.specs.Breaks.{IsAnswered};
 ghost use Rattle.pq_store.specs.Content.{HasBrokeCause};
 ghost use Rattle.pq_statement.specs.Actions.{Batches};
+ghost use Rattle.pq_reports.specs.Evidence.{AnswersFor};
 ghost use Rattle.pq_reports.specs.Promise.{Promises};
 
 use pq_base::{List, Refusal};
@@ -30,7 +31,7 @@ pub fn make_batch<S: Store<L>, L: Ledger>(
     ensures step { Promises number (Ok (Batches writes.now)) (S.content store.old) (S.content store.new) planned
         meter.old meter.new result }
     ensures cause { HasBrokeCause (S.faults store.old) (S.faults store.new) result }
-    ensures answered { IfErr result (IsAnswered (AnswersBehind S.answers)) }
+    ensures answered { IfErr result (IsAnswered (AnswersFor planned (Ok (Batches writes.now)) S.answers)) }
 {
     let catalog = planned.catalog();
     let bound = batch_bound(catalog, writes);

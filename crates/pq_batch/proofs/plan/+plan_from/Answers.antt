@@ -3,15 +3,20 @@ use Rattle.std.specs.Prelude.{All}
 use Rattle.std.proofs.lemmas.Result.{IfOk-weaker, IfErr-weaker}
 use Rattle.pq_content.specs.Standing.{change_of}
 use Rattle.pq_store.specs.Content.{Content}
+use Rattle.pq_calls.specs.Calls.{seen_world}
+use Rattle.pq_calls.specs.World.{where_told}
 use Rattle.pq_pending.specs.Pending.{with_changes, seen_content, RemovesAtMost}
 use Rattle.pq_index_keep.specs.Bounds.{removers_of}
 use Rattle.pq_index_keep.specs.Promises.{IsShortChange, IsShortWithin, RemovesFew}
 use Rattle.pq_index_keep.specs.declared.plan.Planned.{Planned}
 use Rattle.pq_index_keep.specs.declared.write.Write.{Write}
 use Rattle.pq_tallies.specs.Counters.{HoldsCounted}
-use Rattle.pq_counters.specs.Whole.{AreWhole, IsWholeWithin, PlansWhole, RefusesWhole, whole_changes}
+use Rattle.pq_counters.specs.Evidence.{ShowsCounted}
+use Rattle.pq_counters.specs.Whole.{AreWhole, HasWhole, ChangesWhole, IsWholeWithin, PlansWhole, RefusesWhole, whole_changes}
+use Rattle.pq_batch.specs.From.{ShowsFrom}
 use Rattle.pq_batch.proofs.Nexts.{HasNext, has_next, later_some, later_few, later_ahead, refused_first, plans_first, plans_last, within_more, refuses_first, refuses_later}
-use Rattle.pq_batch.proofs.Worlds.{cut_first, cut_none, each_rest, changes_cut, first_share, rest_share, uses_first, uses_both}
+use Rattle.pq_batch.proofs.Shown.{cause_here, answered_here, causes_later, answers_later}
+use Rattle.pq_batch.proofs.Worlds.{causes_before, cut_first, cut_none, each_rest, changes_cut, first_share, rest_share, uses_first, uses_both}
 use Rattle.pq_batch.proofs.plan.+plan_from.Goals as goal
 
 pub returns-in_default-clause-answer : goal.returns-in_default-clause-answer
@@ -91,6 +96,15 @@ returns-in-Err-clause-uses g t c =
     uses_first c.args.catalog.now all write (take (length all - 1) (drop 1 all)) (cut_first all write c.in-len1-up.len_at_least c.write-item.is) c.args.pending.removers (c.args.pending.removers + removers_of write) refl
     g.S.Store.content g.S.Store.faults c.args.calls.now c.plan_next.new.calls c.in-Err.ensures.uses
 
+pub returns-in-Err-clause-cause : goal.returns-in-Err-clause-cause
+returns-in-Err-clause-cause g t c =
+    cause_here c.args.catalog.now c.args.writes.now c.args.pending.changes c.in-len1-up.len_at_least c.in-Err.error (where_told (ShowsCounted c.args.catalog.now))
+    (seen_world g.S.Store.content g.S.Store.faults c.args.calls.now) (seen_world g.S.Store.content g.S.Store.faults c.plan_next.new.calls) c.in-Err.ensures.cause
+
+pub returns-in-Err-clause-answered : goal.returns-in-Err-clause-answered
+returns-in-Err-clause-answered g t c =
+    answered_here c.args.catalog.now c.args.writes.now c.args.pending.changes c.in-len1-up.len_at_least c.in-Err.error g.S.Store.answers c.in-Err.ensures.answered
+
 pub returns-in-Ok-Refused-clause-uses : goal.returns-in-Ok-Refused-clause-uses
 returns-in-Ok-Refused-clause-uses g t c =
     let all = c.args.writes.now in
@@ -121,6 +135,36 @@ returns-in_ok-pending-in-Ok-Changes-clause-uses g t c =
     ap (λ a. a.removers) c.in_ok-pending-in-Ok-Changes.ensures ∙ ap (λ (n : ℕ). c.args.pending.removers + n) c.removers_of.ensures.removers in
     uses_both c.args.catalog.now all write (take (length all - 1) (drop 1 all)) (cut_first all write c.in-len1-up.len_at_least c.write-item.is) c.args.pending.removers later.removers removers_is
     g.S.Store.content g.S.Store.faults c.args.calls.now c.plan_next.new.calls c.in-Ok-Changes.ensures.uses c.plan_from.new.calls c.plan_from.ensures.uses
+
+pub returns-in_ok-pending-in-Ok-Changes-clause-cause : goal.returns-in_ok-pending-in-Ok-Changes-clause-cause
+returns-in_ok-pending-in-Ok-Changes-clause-cause g t c =
+    let schema = c.args.catalog.now in
+    let all = c.args.writes.now in
+    let write = c.write-item.result in
+    let rest : List Write = take (length all - 1) (drop 1 all) in
+    let old = c.args.pending.changes in
+    let later = c.in_ok-pending-in-Ok-Changes.pending in
+    let told = g.S.Store.content c.args.calls.now.store.now in
+    let own : HasWhole schema (seen_content old told) write c.in-Ok-Changes.changes =
+    subst (λ (plan : Planned). ChangesWhole schema (seen_content old told) write plan) c.in-Ok-Changes.field-0-is c.in-Ok-Changes.ensures.own in
+    let shows = where_told (ShowsCounted schema) in
+    causes_later schema all write rest (cut_first all write c.in-len1-up.len_at_least c.write-item.is) old later.changes c.in-Ok-Changes.changes (ap (λ a. a.changes) c.in_ok-pending-in-Ok-Changes.ensures) c.plan_from.result
+    shows (seen_world g.S.Store.content g.S.Store.faults c.args.calls.now) (seen_world g.S.Store.content g.S.Store.faults c.plan_from.new.calls) own
+    (causes_before g.S.Store.content g.S.Store.faults c.args.calls.now c.plan_next.new.calls c.plan_from.new.calls (ShowsFrom schema rest later.changes shows) _ _ c.in-Ok-Changes.ensures.uses c.plan_from.result c.plan_from.ensures.cause)
+
+pub returns-in_ok-pending-in-Ok-Changes-clause-answered : goal.returns-in_ok-pending-in-Ok-Changes-clause-answered
+returns-in_ok-pending-in-Ok-Changes-clause-answered g t c =
+    let schema = c.args.catalog.now in
+    let all = c.args.writes.now in
+    let write = c.write-item.result in
+    let rest : List Write = take (length all - 1) (drop 1 all) in
+    let old = c.args.pending.changes in
+    let later = c.in_ok-pending-in-Ok-Changes.pending in
+    let told = g.S.Store.content c.args.calls.now.store.now in
+    let own : HasWhole schema (seen_content old told) write c.in-Ok-Changes.changes =
+    subst (λ (plan : Planned). ChangesWhole schema (seen_content old told) write plan) c.in-Ok-Changes.field-0-is c.in-Ok-Changes.ensures.own in
+    answers_later schema all write rest (cut_first all write c.in-len1-up.len_at_least c.write-item.is) old later.changes c.in-Ok-Changes.changes (ap (λ a. a.changes) c.in_ok-pending-in-Ok-Changes.ensures) c.plan_from.result
+    g.S.Store.answers (seen_content old told) own c.plan_from.ensures.answered
 
 pub returns-in_ok-pending-in-Ok-Changes-clause-undamaged : goal.returns-in_ok-pending-in-Ok-Changes-clause-undamaged
 returns-in_ok-pending-in-Ok-Changes-clause-undamaged g t c =

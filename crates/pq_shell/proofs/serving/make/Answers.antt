@@ -1,8 +1,5 @@
 use Rattle.std.proofs.Common.{rules, sym, subst, inl, inr}
-use Rattle.pq_statement.specs.Actions.{action_of}
-use Rattle.pq_reports.specs.Evidence.{AnswersFor}
 use Rattle.pq_shell.specs.Forms.{HasOpening}
-use Rattle.pq_shell.proofs.Answering.{step_answered}
 use Rattle.pq_shell.proofs.Making.{made_over, broke_over, made_checked, lost_checked}
 use Rattle.pq_shell.proofs.serving.make.Goals as goal
 
@@ -38,7 +35,7 @@ returns-in-Err-statement g c =
     rw c.of.ensures (record {
       ok = tt;
       err = broke_over c.args.number c.args.piece.now c.args.session _ _ _ _ c.args.form c.in-Err-statement.broke some e.stopped e.damage e.building e.lasting e.within_own e.kept
-          (step_answered (AnswersFor (action_of c.args.session c.args.piece.now) g.S.Store.answers) c.args.session c.in-Err-statement.broke e.answered);
+          e.answered;
       unmoved = λ check. absurd (subst HasOpening check some);
       causes = search rules;
     })

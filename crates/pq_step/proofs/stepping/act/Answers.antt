@@ -106,28 +106,28 @@ returns-in-Select-clause-step g c asked asks =
     c.select_query.ensures.step asked a.2
 
 pub returns-in-Create-clause-answered : goal.returns-in-Create-clause-answered
-returns-in-Create-clause-answered g c asked asks = answered_for g.S.Store.answers asked _ c.create.result c.create.ensures.answered
+returns-in-Create-clause-answered g c asked asks = answered_for c.args.planned g.S.Store.answers asked _ c.create.result c.create.ensures.answered
 
 pub returns-in-Alter-clause-answered : goal.returns-in-Alter-clause-answered
-returns-in-Alter-clause-answered g c asked asks = answered_for g.S.Store.answers asked _ c.add_column.result c.add_column.ensures.answered
+returns-in-Alter-clause-answered g c asked asks = answered_for c.args.planned g.S.Store.answers asked _ c.add_column.result c.add_column.ensures.answered
 
 pub returns-in-Write-clause-answered : goal.returns-in-Write-clause-answered
-returns-in-Write-clause-answered g c asked asks = answered_for g.S.Store.answers asked _ c.make_write.result c.make_write.ensures.answered
+returns-in-Write-clause-answered g c asked asks = answered_for c.args.planned g.S.Store.answers asked _ c.make_write.result c.make_write.ensures.answered
 
 pub returns-in-Prepare-clause-answered : goal.returns-in-Prepare-clause-answered
-returns-in-Prepare-clause-answered g c asked asks = answered_but g.S.Store.answers asked _ c.define_query.result c.define_query.ensures.answered
+returns-in-Prepare-clause-answered g c asked asks = answered_but c.args.planned g.S.Store.answers asked _ c.define_query.result c.define_query.ensures.answered
 
 pub returns-in-Run-clause-answered : goal.returns-in-Run-clause-answered
-returns-in-Run-clause-answered g c asked asks = answered_for g.S.Store.answers asked _ c.run_query.result c.run_query.ensures.answered
+returns-in-Run-clause-answered g c asked asks = answered_for c.args.planned g.S.Store.answers asked _ c.run_query.result c.run_query.ensures.answered
 
 pub returns-in-Count-clause-answered : goal.returns-in-Count-clause-answered
-returns-in-Count-clause-answered g c asked asks = answered_for g.S.Store.answers asked _ c.create_counter.result c.create_counter.ensures.answered
+returns-in-Count-clause-answered g c asked asks = answered_for c.args.planned g.S.Store.answers asked _ c.create_counter.result c.create_counter.ensures.answered
 
 pub returns-in-Read-clause-answered : goal.returns-in-Read-clause-answered
-returns-in-Read-clause-answered g c asked asks = answered_for g.S.Store.answers asked _ c.read_count.result c.read_count.ensures.answered
+returns-in-Read-clause-answered g c asked asks = answered_for c.args.planned g.S.Store.answers asked _ c.read_count.result c.read_count.ensures.answered
 
 pub returns-in-Select-clause-answered : goal.returns-in-Select-clause-answered
-returns-in-Select-clause-answered g c asked asks = answered_for g.S.Store.answers asked _ c.select_query.result c.select_query.ensures.answered
+returns-in-Select-clause-answered g c asked asks = answered_for c.args.planned g.S.Store.answers asked _ c.select_query.result c.select_query.ensures.answered
 
 pub make_batch-requires : goal.make_batch-requires
 make_batch-requires g c = (subst (λ (r : Request). Asks c.args.planned r c.requires.0) c.in-Batch.is c.requires.1).0
@@ -140,7 +140,7 @@ returns-in-Batch-clause-step g c asked asks =
 pub returns-in-Batch-clause-answered : goal.returns-in-Batch-clause-answered
 returns-in-Batch-clause-answered g c asked asks =
     let a = subst (λ (r : Request). Asks c.args.planned r asked) c.in-Batch.is asks in
-    batch_answered g.S.Store.answers asked c.in-Batch.writes _ a.1 c.make_batch.result c.make_batch.ensures.answered
+    batch_answered c.args.planned g.S.Store.answers asked c.in-Batch.writes _ a.1 c.make_batch.result c.make_batch.ensures.answered
 
 pub returns-in-Misread-clause-step : goal.returns-in-Misread-clause-step
 returns-in-Misread-clause-step g c asked asks =

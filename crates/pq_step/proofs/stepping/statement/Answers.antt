@@ -1,4 +1,4 @@
-use Rattle.pq_reports.proofs.Promises.{promised_can, promised_kept, promised_own, promised_reads, promised_made, promised_matches, promised_next, promised_shown, promised_lasting, promised_stopped, promised_unread, promised_within}
+use Rattle.pq_reports.proofs.Promises.{promised_can, promised_kept, promised_memory, promised_own, promised_reads, promised_made, promised_matches, promised_next, promised_shown, promised_lasting, promised_stopped, promised_unread, promised_within}
 use Rattle.pq_check.proofs.Written.{promised_as}
 use Rattle.pq_step.proofs.stepping.statement.Goals as goal
 
@@ -41,3 +41,6 @@ returns-clause-can g c = promised_can c.args.number c.args.piece.now _ _ c.args.
 
 pub returns-clause-reads : goal.returns-clause-reads
 returns-clause-reads g c = promised_reads c.args.number c.args.piece.now _ _ c.args.planned _ _ c.make_piece.result c.make_piece.ensures.step
+
+pub returns-clause-memory : goal.returns-clause-memory
+returns-clause-memory g c = promised_memory c.args.number c.args.piece.now _ _ c.args.planned _ _ c.make_piece.result c.make_piece.ensures.step

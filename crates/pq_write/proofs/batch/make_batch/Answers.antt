@@ -6,7 +6,7 @@ use Rattle.pq_content.specs.Standing.{write_ops}
 use Rattle.pq_counters.specs.Whole.{AreWhole}
 use Rattle.pq_reports.specs.Step.{unmade_end}
 use Rattle.pq_write.proofs.Changing.{commits_within, refused_done, made_done, planning_broke, commit_broke}
-use Rattle.pq_write.proofs.Batching.{batch_is_change, batch_long, batch_made, batch_refused, batch_shown, behind_answered, long_can, refused_can}
+use Rattle.pq_write.proofs.Batching.{batch_is_change, batch_long, batch_made, batch_refused, batch_shown, behind_answered, plain_answered, long_can, refused_can}
 use Rattle.pq_write.proofs.Writing.{settled_sound}
 use Rattle.pq_write.proofs.batch.make_batch.Goals as goal
 
@@ -26,6 +26,11 @@ returns-in_err-place-clause-step g c =
     rw (p.1, p.2, ← c.catalog-catalog.ensures) (planning_broke c.args.number _ schema _ is c.in_err-place.field-0.0 _ _ _ _ _ _ _ _ _ _ c.grant-allowance.ensures c.in_err-place.ensures.reads
     (batch_shown c.args.writes.now _ schema _ _ _ _ _ _ _ _ _ _ c.in_err-place.ensures.reads c.in_err-place.ensures.cause) (settled_sound _ schema _ c.in_err-place.ensures.undamaged))
 
+pub returns-in_err-place-clause-answered : goal.returns-in_err-place-clause-answered
+returns-in_err-place-clause-answered g c =
+    let p = err_from_is_err_and c.from_residual.result c.from_residual.ensures.1 in
+    rw (p.1, p.2, ← c.catalog-catalog.ensures) (behind_answered c.catalog-catalog.result.now c.args.writes.now g.S.Store.answers c.in_err-place.field-0.0 c.in_err-place.ensures.answered)
+
 pub returns-in_err-commit-in-Changes-clause-step : goal.returns-in_err-commit-in-Changes-clause-step
 returns-in_err-commit-in-Changes-clause-step g c =
     let p = err_from_is_err_and c.from_residual-in_err-commit-in-Changes.result c.from_residual-in_err-commit-in-Changes.ensures.1 in
@@ -40,7 +45,7 @@ returns-in_err-commit-in-Changes-clause-step g c =
 pub returns-in_err-commit-in-Changes-clause-answered : goal.returns-in_err-commit-in-Changes-clause-answered
 returns-in_err-commit-in-Changes-clause-answered g c =
     let p = err_from_is_err_and c.from_residual-in_err-commit-in-Changes.result c.from_residual-in_err-commit-in-Changes.ensures.1 in
-    rw (p.1, p.2) (behind_answered g.S.Store.answers c.in_err-commit-in-Changes.field-0.0 c.in_err-commit-in-Changes.ensures.answered)
+    rw (p.1, p.2) (plain_answered c.args.planned c.args.writes.now g.S.Store.answers c.in_err-commit-in-Changes.field-0.0 c.in_err-commit-in-Changes.ensures.answered)
 
 pub returns-in-Refused-clause-step : goal.returns-in-Refused-clause-step
 returns-in-Refused-clause-step g c =
