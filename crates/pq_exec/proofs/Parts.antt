@@ -1,9 +1,11 @@
 -- Parts of combinations fit as the whole did.
-use Rattle.std.proofs.Common.{◌≡◌, List, length, subst, sym, arith}
+use Rattle.std.proofs.Common.{◌≡◌, List, length, Option, None, Some, subst, sym, arith}
+use Rattle.std.specs.Prelude.{IfSome}
 use Rattle.std.specs.List.{AllByRecursion}
 use Rattle.pq_base.specs.declared.value.Value.{Value}
 use Rattle.pq_schema.specs.declared.query.Query.{Query}
 use Rattle.pq_schema.specs.declared.table.Table.{Table}
+use Rattle.pq_store.specs.Content.{Content}
 use Rattle.pq_plan.specs.Nodes.{Node}
 use Rattle.pq_nodes.specs.Combos.{FitsTables}
 use Rattle.pq_nodes.specs.Paid.{node_size}
@@ -24,3 +26,8 @@ part_given tables query node combos found size rows all part =
       few = omega arith;
       fit = subst (λ n. AllByRecursion (FitsTables tables query n) found) (sym rows) (part.fit tables query (rows_before query node) all);
     }
+
+-- what is so of any content
+pub in_any : (told : Option Content) (P : Type 0) → P → IfSome told (λ content. P)
+in_any None P so = tt
+in_any (Some content) P so = so

@@ -1,5 +1,6 @@
 -- A tree is run as its input and then its outermost node.
-use Rattle.std.proofs.Common.{◌≡◌, ℕ, suc, ◌<◌, ◌≤◌, List, [], ◌∷◌, ◌++◌, length, Option, refl, sym, ap, ◌∙◌, subst, arith, length-append}
+use Rattle.std.proofs.Common.{◌≡◌, ℕ, suc, ◌<◌, ◌≤◌, List, [], ◌∷◌, ◌++◌, length, Option, None, Some, refl, sym, ap, ◌∙◌, subst, arith, length-append}
+use Rattle.std.specs.Prelude.{Result, Ok, Err, IfOk, IfSome}
 use Rattle.std.specs.List.{AllByRecursion}
 use Rattle.std.proofs.lemmas.List.Sums.{fold-append}
 use Rattle.pq_base.specs.declared.number.Bound.{Bound}
@@ -7,7 +8,9 @@ use Rattle.pq_base.specs.declared.value.Value.{Value}
 use Rattle.pq_schema.specs.Costs.{ReachedCost, start, plus}
 use Rattle.pq_schema.specs.declared.query.Query.{Query}
 use Rattle.pq_schema.specs.declared.table.Table.{Table}
+use Rattle.pq_store.specs.Content.{Content}
 use Rattle.pq_store.specs.Counts.{AllowedCounts}
+use Rattle.pq_store.specs.declared.damage.Broke.{Broke}
 use Rattle.pq_content.specs.Pairs.{HoldsRows}
 use Rattle.pq_plan.specs.Answer.{Question}
 use Rattle.pq_plan.specs.Cost.{cost}
@@ -24,7 +27,7 @@ use Rattle.pq_nodes.specs.Paid.{node_cost, node_size, IsAtMost}
 use Rattle.pq_nodes.proofs.Paying.{at_most_itself, step_size, step_more}
 use Rattle.pq_runnable.specs.Runnable.{IsWholeAt, IsRunnable, IsRunnableNode}
 use Rattle.pq_runnable.proofs.Runnable.{runnable_split}
-use Rattle.pq_exec.specs.Execution.{top_node, rows_before, rows_behind, AreGiven, AreRun, RunAnswers}
+use Rattle.pq_exec.specs.Execution.{top_node, rows_before, rows_behind, AreGiven, IsFoundIn, AreFoundIn, AreRun, RunAnswers}
 
 -- ---- nodes
 
@@ -51,6 +54,10 @@ rows_after query count project at whole = sym whole
 gives_then : (q : Question) (cursor : Option (List Value)) (front : List Node) (node : Node) (inputs made found : List (List (List Value))) → Gives q cursor inputs front made → Makes q cursor made node found → Gives q cursor inputs (front ++ node ∷ []) found
 gives_then q cursor [] node inputs made found given makes = (found, subst (λ i. Makes q cursor i node found) given makes, refl)
 gives_then q cursor (x ∷ front) node inputs made found given makes = (given.0, given.1, gives_then q cursor front node given.0 made found given.2 makes)
+
+found_then : (tables : List Table) (query : Query) (params : List Value) (cursor : Option (List Value)) (content : Content) (front : List Node) (node : Node) (inputs made found : List (List (List Value))) → AreFoundIn tables query params cursor inputs front made content → IsFoundIn tables query params cursor made node found content → AllByRecursion (FitsTables tables query (rows_behind query node)) found → AreFoundIn tables query params cursor inputs (front ++ node ∷ []) found content
+found_then tables query params cursor content [] node inputs made found given is fit = (found, subst (λ i. IsFoundIn tables query params cursor i node found content) given is, fit, refl)
+found_then tables query params cursor content (x ∷ front) node inputs made found given is fit = (given.0, given.1, given.2, found_then tables query params cursor content front node given.0 made found given.3 is fit)
 
 -- nodes that read nothing are none
 after_grows : (count : ℕ) (list : List Node) → count ≤ after_nodes count list
@@ -176,3 +183,12 @@ module _ (tables : List Table) (query : Query) (tree input : Physical) (over : n
       subst (λ list. Gives q cursor ([] ∷ []) list found) (sym over)
       (gives_then q cursor (nodes input) node ([] ∷ []) inputs found (first rows others holds)
       (answers rows others (subst (λ told. HoldsRows told tables rows others) (sym reads.same) holds)))
+
+  pub tree_found : (params : List Value) (cursor : Option (List Value)) (told now : Option Content) (inputs : List (List (List Value))) (result : Result (List (List (List Value))) Broke) → now ≡ told → IfSome told (AreFoundIn tables query params cursor ([] ∷ []) (nodes input) inputs) → IfOk result (λ found. IfSome now (IsFoundIn tables query params cursor inputs node found)) → IfOk result (AreGiven tables query (length inputs) node)
+      → IfOk result (λ found. IfSome told (AreFoundIn tables query params cursor ([] ∷ []) (nodes tree) found))
+  tree_found params cursor told now inputs (Err why) same first is given = tt
+  tree_found params cursor None now inputs (Ok found) same first is given = tt
+  tree_found params cursor (Some content) now inputs (Ok found) same first is given =
+      let own : IsFoundIn tables query params cursor inputs node found content = subst (λ (o : Option Content). IfSome o (IsFoundIn tables query params cursor inputs node found)) same is in
+      subst (λ list. AreFoundIn tables query params cursor ([] ∷ []) list found content) (sym over)
+      (found_then tables query params cursor content (nodes input) node ([] ∷ []) inputs found first own given.fit)

@@ -1,6 +1,6 @@
 -- Running a plan: the nodes of its tree, what is promised of each tree that is run, and of the answer.
 use Rattle.std.specs.Prelude.{◌≡◌, ℕ, ◌+◌, ◌-◌, ◌≤◌, List, [], ◌∷◌, ◌++◌, length}
-use Rattle.std.specs.Prelude.{Option, None, option_map, IfSome, MatchOption}
+use Rattle.std.specs.Prelude.{Option, None, option_map, map, IfSome, MatchOption}
 use Rattle.std.specs.List.{AllByRecursion}
 use Rattle.pq_base.specs.Values.{AllFit}
 use Rattle.pq_base.specs.declared.number.Bound.{Bound}
@@ -14,7 +14,7 @@ use Rattle.pq_store.specs.Counts.{Counts}
 use Rattle.pq_content.specs.Pairs.{Pair, HoldsRows}
 use Rattle.pq_plan.specs.declared.physical.Physical.{Physical}
 use Rattle.pq_plan.specs.declared.physical.Physical.TheVariants as tree
-use Rattle.pq_plan.specs.Answer.{Question, answer, answered, first_past, past, position}
+use Rattle.pq_plan.specs.Answer.{Question, answer, answered, first_past, past, position, selected_values}
 use Rattle.pq_plan.specs.Cost.{cost}
 use Rattle.pq_plan.specs.Executing.{Gives}
 use Rattle.pq_plan.specs.Nodes.{Node, lookup, limit_range, stop_scan, keep, sort, cut, project, nodes, run_of}
@@ -22,6 +22,10 @@ use Rattle.pq_nodes.specs.Combos.{FitsTables, position_types, selected_types}
 use Rattle.pq_nodes.specs.Ordered.{after_nodes}
 use Rattle.pq_nodes.specs.Paid.{node_size}
 use Rattle.pq_running.specs.Running.{last_of}
+use Rattle.pq_local_ops.specs.Lists.{AreKept, AreOrdered}
+use Rattle.pq_fk_join.specs.Joined.{AreJoined}
+use Rattle.pq_scan.specs.Scanned.{AreFirstScanned}
+use Rattle.pq_index_scan.specs.Ranged.{AreRanged}
 use Rattle.pq_exec.specs.declared.executing.Answer.{Answer}
 
 -- ---- one node of a tree
@@ -81,6 +85,29 @@ IsCutOf tables query after k combos found =
     (rows : Rows) (params : List Value) →
     found ≡ first_past (record { tables = tables; query = query; rows = rows; params = params }) after k combos
 
+-- what a node makes of its inputs over any content: what it reads is as the content has it, all else is as it means
+abbrev pub IsFoundIn : List Table → Query → List Value → Option (List Value) → List (List (List Value)) → Node
+    → List (List (List Value)) → Content → Type 0
+IsFoundIn tables query params after inputs (lookup rel) found content =
+    AreJoined tables query params rel inputs found content
+IsFoundIn tables query params after inputs (limit_range rel limit n access) found content =
+    AreRanged tables query params rel limit access inputs found content
+IsFoundIn tables query params after inputs (stop_scan rel k access) found content =
+    AreFirstScanned tables query params rel access after k inputs found content
+IsFoundIn tables query params after inputs (keep rel) found content = AreKept query params rel inputs found
+IsFoundIn tables query params after inputs sort found content = AreOrdered tables query inputs found
+IsFoundIn tables query params after inputs (cut k) found content = IsCutOf tables query after k inputs found
+IsFoundIn tables query params after inputs project found content = found ≡ inputs
+
+-- the same from the innermost node on; what each makes has a fitting row for each relation read by then
+abbrev pub AreFoundIn : List Table → Query → List Value → Option (List Value) → List (List (List Value)) → List Node
+    → List (List (List Value)) → Content → Type 0
+AreFoundIn tables query params after inputs [] found content = found ≡ inputs
+AreFoundIn tables query params after inputs (node ∷ rest) found content =
+    (made : List (List (List Value))) × IsFoundIn tables query params after inputs node made content
+    × AllByRecursion (FitsTables tables query (rows_behind query node)) made
+    × AreFoundIn tables query params after made rest found content
+
 -- ---- a tree that was run
 
 -- no more combinations than the nodes give, each with a fitting row for each relation that they read; where there are
@@ -106,6 +133,14 @@ IsLastPosition tables query combos last =
     (rows : Rows) (params : List Value) →
     let q : Question = record { tables = tables; query = query; rows = rows; params = params } in
     last ≡ option_map (position q) (last_of combos)
+
+-- over any content, the rows are selected of what the plan's nodes find in it, and the position is that of the last one
+pub record IsAnswerIn (tables : List Table) (query : Query) (params : List Value) (after : Option (List Value))
+    (tree : Physical) (result : Answer) (content : Content) : Type 0 where
+  pub combos : List (List (List Value))
+  pub found : AreFoundIn tables query params after ([] ∷ []) (nodes tree) combos content
+  pub rows : result.rows ≡ map (selected_values query) combos
+  pub last : IsLastPosition tables query combos result.last
 
 -- the rows are those of the query's answer, and the position is that of the last combination, where there is one
 pub record IsAnswer (tables : List Table) (query : Query) (held : Rows) (params : List Value)

@@ -10,7 +10,7 @@ ghost use Rattle.pq_plan.specs.Cost.{cost};
 ghost use Rattle.pq_nodes.specs.Combos.{FitsTables, position_types};
 ghost use Rattle.pq_nodes.specs.Operators.{IsAsked, IsCursor, ShowsRead, IsSoundOverRows};
 ghost use Rattle.pq_runnable.specs.Runnable.{IsRunnablePlan};
-ghost use Rattle.pq_exec.specs.Execution.{AnswersQuery, IsLastPosition, IsPage, RisesByUsed, RisesWithin};
+ghost use Rattle.pq_exec.specs.Execution.{AnswersQuery, IsAnswerIn, IsLastPosition, IsPage, RisesByUsed, RisesWithin};
 
 use crate::request::Request;
 use crate::tree::run;
@@ -72,6 +72,9 @@ pub fn execute<S: Store<L>, L: Ledger>(
     // Over a content that holds rows it is the query's answer over them.
     ensures answer { IfOk result (AnswersQuery (S.content store.old) catalog.now.tables query.now params.now
         (option_copied after.entry)) }
+    // Over any content that is told its rows are made of what the nodes find there: nothing is passed over.
+    ensures codes { IfOk result (λ answer. IfSome (S.content store.old) (IsAnswerIn catalog.now.tables query.now
+        params.now (option_copied after.entry) plan.now answer)) }
     // Over every store.
     ensures page { IfOk result (IsPage catalog.now.tables query.now plan.now) }
     ensures content { S.content store.new ≡ S.content store.old }

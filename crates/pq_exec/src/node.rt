@@ -1,5 +1,5 @@
 //! One node of a plan, run over its inputs.
-ghost use Rattle.std.specs.Prelude.{◌≡◌, ◌-◌, [], ◌∷◌, length, option_copied, IfOk, IfErr};
+ghost use Rattle.std.specs.Prelude.{◌≡◌, ◌-◌, [], ◌∷◌, length, option_copied, IfOk, IfErr, IfSome};
 ghost use Rattle.std.specs.List.{AllByRecursion};
 ghost use Rattle.pq_store.specs.Breaks.{IsAnswered};
 ghost use Rattle.pq_calls.specs.World.{world};
@@ -7,7 +7,7 @@ ghost use Rattle.pq_plan.specs.Nodes.{stop_scan};
 ghost use Rattle.pq_nodes.specs.Combos.{FitsTables};
 ghost use Rattle.pq_nodes.specs.Operators.{IsAsked, IsReadyNode, AreFound, AreInputs, IsCursor, AffordsNode, ReadsNode};
 ghost use Rattle.pq_nodes.specs.Operators.{AnswersNode, StopsReading, IsSoundOverRows};
-ghost use Rattle.pq_exec.specs.Execution.{top_node, rows_before, AreGiven, ArePastCursor, IsCutOf};
+ghost use Rattle.pq_exec.specs.Execution.{top_node, rows_before, AreGiven, ArePastCursor, IsCutOf, IsFoundIn};
 ghost use Rattle.pq_local_ops.specs.Lists.{ArePart};
 
 use crate::request::Request;
@@ -81,6 +81,9 @@ fn read_stop<S: Store<L>, L: Ledger>(
     requires first { rel - 1 ≡ 0 → inputs ≡ [] ∷ [] }
     requires cursor { IsCursor request.now.catalog.now.tables request.now.query.now (option_copied request.now.after) }
     requires share { AffordsNode allowance.old (length inputs) (stop_scan rel k access) }
+    ensures codes { IfOk result (λ found. IfSome (S.content store.old) (IsFoundIn request.now.catalog.now.tables
+        request.now.query.now request.now.params.now (option_copied request.now.after) inputs
+        (stop_scan rel k access) found)) }
     ensures answer { IfOk result (AnswersNode (S.content store.old) request.now.catalog.now.tables
         request.now.query.now request.now.params.now (option_copied request.now.after)
         inputs (stop_scan rel k access)) }
@@ -130,6 +133,9 @@ pub(crate) fn run_node<S: Store<L>, L: Ledger>(
     requires first { rows_before request.now.query.now (top_node tree.now) ≡ 0 → inputs ≡ [] ∷ [] }
     requires cursor { IsCursor request.now.catalog.now.tables request.now.query.now (option_copied request.now.after) }
     requires share { AffordsNode allowance.old (length inputs) (top_node tree.now) }
+    ensures codes { IfOk result (λ found. IfSome (S.content store.old) (IsFoundIn request.now.catalog.now.tables
+        request.now.query.now request.now.params.now (option_copied request.now.after) inputs (top_node tree.now)
+        found)) }
     ensures answer { IfOk result (AnswersNode (S.content store.old) request.now.catalog.now.tables
         request.now.query.now request.now.params.now (option_copied request.now.after) inputs (top_node tree.now)) }
     ensures reads { ReadsNode (world (S.content store.old) (S.faults store.old) allowance.old meter.old)

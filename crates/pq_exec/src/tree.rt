@@ -1,12 +1,12 @@
 //! The tree of a plan, run from its innermost node on.
-ghost use Rattle.std.specs.Prelude.{◌≡◌, [], ◌∷◌, option_copied, IfOk, IfErr};
+ghost use Rattle.std.specs.Prelude.{◌≡◌, [], ◌∷◌, option_copied, IfOk, IfErr, IfSome};
 ghost use Rattle.pq_store.specs.Breaks.{IsAnswered};
 ghost use Rattle.pq_calls.specs.World.{world, Affords, Reads};
 ghost use Rattle.pq_plan.specs.Cost.{cost};
 ghost use Rattle.pq_plan.specs.Nodes.{nodes};
 ghost use Rattle.pq_nodes.specs.Operators.{IsAsked, IsCursor, StopsReading, IsSoundOverRows};
 ghost use Rattle.pq_runnable.specs.Runnable.{IsRunnable};
-ghost use Rattle.pq_exec.specs.Execution.{IsInputOf, AreRun, RunAnswers};
+ghost use Rattle.pq_exec.specs.Execution.{IsInputOf, AreFoundIn, AreRun, RunAnswers};
 
 use crate::node::run_node;
 use crate::request::Request;
@@ -55,6 +55,9 @@ pub(crate) fn run<S: Store<L>, L: Ledger>(
         (cost tree.now) (nodes tree.now) }
     requires cursor { IsCursor request.now.catalog.now.tables request.now.query.now (option_copied request.now.after) }
     requires share { Affords allowance.old (cost tree.now).ops (cost tree.now).entries }
+    ensures codes { IfOk result (λ found. IfSome (S.content store.old) (AreFoundIn request.now.catalog.now.tables
+        request.now.query.now request.now.params.now (option_copied request.now.after) ([] ∷ []) (nodes tree.now)
+        found)) }
     ensures answer { IfOk result (RunAnswers (S.content store.old) request.now.catalog.now.tables
         request.now.query.now request.now.params.now (option_copied request.now.after) (nodes tree.now)) }
     ensures reads { Reads (world (S.content store.old) (S.faults store.old) allowance.old meter.old)

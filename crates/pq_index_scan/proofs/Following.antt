@@ -1,6 +1,6 @@
 -- Inputs that are followed by the rows of their ranges, one after the other.
 use Rattle.std.proofs.Common.{◌≡◌, ℕ, ◌+◌, ◌-◌, ◌*◌, ◌<◌, ◌≤◌, false, List, [], ◌∷◌, ◌++◌, length, get_or, map, take, Option, None, IsPermutation, sym, ap, ◌∙◌, subst, arith}
-use Rattle.std.specs.Prelude.{Result, Ok, Err, IfOk, IfErr}
+use Rattle.std.specs.Prelude.{Result, Ok, Err, IfOk, IfErr, IfSome}
 use Rattle.std.specs.List.{AllByRecursion}
 use Rattle.std.proofs.lemmas.Grind.{flat_map-append}
 use Rattle.std.proofs.lemmas.List.{append-nil, length-append, length-map, take_more}
@@ -14,8 +14,9 @@ use Rattle.pq_schema.specs.declared.table.Table.{Table}
 use Rattle.pq_schema.specs.declared.query.Query.{Query}
 use Rattle.pq_base.specs.declared.number.Bound.{Bound}
 use Rattle.pq_schema.specs.Costs.{times, limit_cost}
-use Rattle.pq_schema.specs.Relations.{table_of}
+use Rattle.pq_schema.specs.Relations.{relation_at, table_of}
 use Rattle.pq_schema.specs.Rows.{Rows, types_of}
+use Rattle.pq_schema.specs.Sequences.{sequence_of}
 use Rattle.pq_store.specs.Content.{Content}
 use Rattle.pq_store.specs.Counts.{AllowedCounts}
 use Rattle.pq_store.specs.declared.damage.Broke.{Broke}
@@ -23,6 +24,7 @@ use Rattle.pq_calls.specs.Calls.{Uses}
 use Rattle.pq_calls.specs.World.{World, Affords}
 use Rattle.pq_calls.specs.declared.calls.Calls.{Calls}
 use Rattle.pq_content.specs.Pairs.{Pair, HoldsRows}
+use Rattle.pq_content.specs.Tables.{first_columns}
 use Rattle.pq_plan.specs.Answer.{Question, question}
 use Rattle.pq_plan.specs.Cost.{is_primary_access}
 use Rattle.pq_plan.specs.Running.{matching, ranged, limit_columns}
@@ -31,7 +33,7 @@ use Rattle.pq_nodes.specs.Operators.{AreInputs, AffordsNode, AreFound, AnswersNo
 use Rattle.pq_nodes.specs.Paid.{node_cost}
 use Rattle.pq_nodes.proofs.Undamaged.{read_undamaged}
 use Rattle.pq_index_scan.specs.declared.limit.LimitRange.{LimitRange}
-use Rattle.pq_index_scan.specs.Ranged.{own_limit, limit_node, IsRangeOf, AddsRanged}
+use Rattle.pq_index_scan.specs.Ranged.{own_limit, limit_node, node_range, IsRangeOf, AreFollowed, AreRanged, AddsRanged}
 use Rattle.pq_index_scan.proofs.Ranging.{fits_next}
 
 -- ---- one input
@@ -117,6 +119,16 @@ module _ (tables : List Table) (query : Query) (range : LimitRange) (is : IsRang
   module _ (rel limit : ℕ) (access : Access) (own_rel : range.rel ≡ rel) (own_limit_is : range.limit ≡ limit) (own_access : range.access ≡ access) where
     own_n : range.n ≡ (own_limit tables query rel limit).n
     own_n = is.n ∙ (λ i. (own_limit tables query (own_rel i) (own_limit_is i)).n)
+
+    node_is : range ≡ node_range tables query rel limit access
+    node_is =
+        let number : range.number ≡ (relation_at query rel).table = is.number ∙ ap (λ (r : ℕ). (relation_at query r).table) own_rel in
+        let first : range.first ≡ first_columns (sequence_of (table_of tables query rel) access) (own_limit tables query rel limit).cols =
+        is.first ∙ (λ i. first_columns (sequence_of (table_of tables query (own_rel i)) (own_access i)) (own_limit tables query (own_rel i) (own_limit_is i)).cols) in
+        λ i. record { rel = own_rel i; limit = own_limit_is i; number = number i; access = own_access i; n = own_n i; first = first i }
+
+    pub node_codes : (told : Option Content) (params : List Value) (inputs : List (List (List Value))) (result : Result (List (List (List Value))) Broke) → IfOk result (λ found. IfSome told (AreFollowed tables query params range inputs found)) → IfOk result (λ found. IfSome told (AreRanged tables query params rel limit access inputs found))
+    node_codes told params inputs result h = subst (λ (r : LimitRange). IfOk result (λ found. IfSome told (AreFollowed tables query params r inputs found))) node_is h
 
     pub node_cost_is : (inputs : ℕ) → times inputs (limit_cost (is_primary_access range.access) range.n) ≡ node_cost inputs (limit_node tables query rel limit access)
     node_cost_is inputs = λ i. times inputs (limit_cost (is_primary_access (own_access i)) (own_n i))

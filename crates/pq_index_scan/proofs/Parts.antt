@@ -34,13 +34,14 @@ use Rattle.pq_plan.proofs.Kept.{row_fits}
 use Rattle.pq_nodes.specs.Combos.{FitsTables}
 use Rattle.pq_nodes.specs.Operators.{IsAsked, ShowsRead}
 use Rattle.pq_operands.specs.Ties.{cells_tied}
-use Rattle.pq_entries.specs.Entries.{AreOfRange, OfEachRange, IsUnread, OneShows, TellsPair, IsKeyThere, AreFirstRows, AreFirstValues, key_front, pair_of}
+use Rattle.pq_entries.specs.Entries.{AreOfRange, OfEachRange, AreRowsWithin, AreSequenceRows, IsUnread, OneShows, TellsPair, IsKeyThere, AreFirstRows, AreFirstValues, key_front, pair_of}
 use Rattle.pq_entries.proofs.Answered.{read_answered}
 use Rattle.pq_entries.proofs.Naming.{each_item}
 use Rattle.pq_entries.proofs.Told.{part_long}
 use Rattle.pq_entries.proofs.Zipped.{zipped_at}
 use Rattle.pq_index_scan.specs.declared.limit.LimitRange.{LimitRange}
-use Rattle.pq_index_scan.specs.Ranged.{first_of_range, ends_behind, IsRangeOf, IsPartBehind, FollowsPart, AddsRanged}
+use Rattle.pq_scan.specs.Scanned.{AreReadOf}
+use Rattle.pq_index_scan.specs.Ranged.{first_of_range, ends_behind, IsRangeOf, AreRowsBehind, IsPartBehind, FollowsPart, AddsRanged}
 use Rattle.pq_index_scan.proofs.Following.{AreMatching, follow_few, follow_fit, next_ranged}
 use Rattle.pq_index_scan.proofs.Ranging.{ends_as, range_table, none_match, has_matching}
 
@@ -104,18 +105,23 @@ module _ (tables : List Table) (query : Query) (params : List Value) (range : Li
   abbrev low : List ℕ
   low = first_of_range tables query params range input
 
+  abbrev range_ends : Option Ends
+  range_ends = Some (record { low = low; high = past_code low })
+
+  ends_as_null : (b : Bool) → has_null cells ≡ b → ends_behind tables query params range input ≡ cond b None range_ends
+  ends_as_null b is = ap (λ (c : Bool). cond c None range_ends) is
+
   -- nothing was asked, or the pairs are those of the range
   by_null : (P : Type 0) → (has_null cells ≡ true → part ≡ [] → P) → (has_null cells ≡ false → AreOfRange range.number range.access told low (past_code low) range.n part → P) → P
   by_null P none some = by (has_null cells) refl
     where
       by : (b : Bool) → has_null cells ≡ b → P
-      by true null = none null (subst (λ (o : Option Ends). IsPartAsked range.n o part) (ap (λ (b : Bool). cond b None (Some (record { low = low; high = past_code low }))) null) behind.asked)
+      by true null = none null (subst (λ (o : Option Ends). IsPartAsked range.n o part) (ends_as_null true null) behind.asked)
       by false plain =
-          let ends : ends_behind tables query params range input ≡ Some (record { low = low; high = past_code low }) = ap (λ (b : Bool). cond b None (Some (record { low = low; high = past_code low }))) plain in
           some plain record {
             ends = ends_as range.number (table_of tables query range.rel) range.access cells low (past_code low) refl refl;
-            part = subst (λ (o : Option Ends). IsPartAsked range.n o part) ends behind.asked;
-            are = subst (λ (o : Option Ends). ArePairsOf told range.n o part) ends behind.are;
+            part = subst (λ (o : Option Ends). IsPartAsked range.n o part) (ends_as_null false plain) behind.asked;
+            are = subst (λ (o : Option Ends). ArePairsOf told range.n o part) (ends_as_null false plain) behind.are;
           }
 
   pub part_few : length part ≤ range.n
@@ -140,6 +146,19 @@ module _ (tables : List Table) (query : Query) (params : List Value) (range : Li
   module _ (found : List (List Value)) (long : length found ≡ length part) where
     none_found : part ≡ [] → found ≡ []
     none_found none = no_items found (long ∙ ap (λ (l : List StoredPair). length l) none)
+
+    abbrev read_of : (List ℕ → List ℕ → ℕ → List (List Value) → Content → Type 0) → Option Ends → Content → Type 0
+    read_of within ends content = AreReadOf (λ low high. within low high range.n) ends found content
+
+    nothing_read : (within : List ℕ → List ℕ → ℕ → List (List Value) → Content → Type 0) (o : Option Content) → found ≡ [] → IfSome o (read_of within None)
+    nothing_read within None none = tt
+    nothing_read within (Some content) none = none
+
+    -- what is read of whatever range the part is of is read of the range behind the input
+    pub part_read : (within : List ℕ → List ℕ → ℕ → List (List Value) → Content → Type 0) → OfEachRange range.number range.access part (λ told low high limit. IfSome told (within low high limit found)) → IfSome told (read_of within (ends_behind tables query params range input))
+    part_read within each = by_null (IfSome told (read_of within (ends_behind tables query params range input)))
+        (λ null none. subst (λ (o : Option Ends). IfSome told (read_of within o)) (sym (ends_as_null true null)) (nothing_read within told (none_found none)))
+        (λ plain are. subst (λ (o : Option Ends). IfSome told (read_of within o)) (sym (ends_as_null false plain)) (each told low (past_code low) range.n are))
 
     pub part_there : OfEachRange range.number range.access part (λ told low high limit. AllByRecursion (IsKeyThere range.number (table_at tables range.number) range.access told) found) → AllByRecursion (IsKeyThere range.number (table_at tables range.number) range.access told) found
     part_there each = by_null (AllByRecursion (IsKeyThere range.number (table_at tables range.number) range.access told) found)
@@ -196,6 +215,12 @@ module _ (tables : List Table) (query : Query) (params : List Value) (range : Li
     follows_fit all =
         subst (AllByRecursion (FitsTables tables query range.rel)) (sym adds.is)
         (follow_fit tables query range.rel is.ready.is.relation.from_one input fits before adds.rows (subst (λ (own : Table). AllByRecursion (AllFit (types_of own)) adds.rows) (sym (range_table tables query range is)) adds.fit) all)
+
+    pub follows_rows : IfSome told (AreRowsBehind tables query params range input adds.rows)
+    follows_rows =
+        subst (λ (a : Access). IfSome told (AreReadOf (λ low high. AreSequenceRows range.number (table_at tables range.number) a low high range.n) (ends_behind tables query params range input) adds.rows)) (sym primary)
+        (part_read adds.rows adds.long (λ low high limit rows content. AreRowsWithin (table_at tables range.number) low high limit rows content)
+        (subst (λ (a : Access). OfEachRange range.number a part (λ told low high limit. IfSome told (AreRowsWithin (table_at tables range.number) low high limit adds.rows))) (sym primary) adds.codes))
 
     pub follows_ranged : (first : List (List (List Value))) → AddsRanged told tables query params range.rel range.limit first [] before → AddsRanged told tables query params range.rel range.limit (first ++ input ∷ []) [] after
     follows_ranged first so_far =

@@ -1,5 +1,5 @@
 -- What a limit range goes over, and what it finds behind its inputs.
-use Rattle.std.specs.Prelude.{◌≡◌, ◌≤◌, ◌<◌, ◌*◌, ℕ, cond, List, [], ◌∷◌, ◌++◌, length, map, get_or, zip, Option, None, Some, IfSome, IsPermutation}
+use Rattle.std.specs.Prelude.{◌≡◌, ◌≤◌, ◌<◌, ◌+◌, ◌*◌, ℕ, cond, List, [], ◌∷◌, ◌++◌, length, map, get_or, zip, Option, None, Some, IfSome, IsPermutation}
 use Rattle.std.specs.List.{AllByRecursion}
 use Rattle.pq_base.specs.Members.{In}
 use Rattle.pq_base.specs.Values.{AllFit, has_null}
@@ -27,7 +27,8 @@ use Rattle.pq_plan.specs.Running.{ranged, limit_columns}
 use Rattle.pq_nodes.specs.Inverse.{node_limit_at}
 use Rattle.pq_nodes.specs.Operators.{IsReadyNode}
 use Rattle.pq_operands.specs.Ties.{cells_tied}
-use Rattle.pq_entries.specs.Entries.{OfEachRange, AreFirstRows, AreFirstValues, IsKeyThere}
+use Rattle.pq_entries.specs.Entries.{OfEachRange, AreRowsWithin, AreKeysWithin, AreSequenceRows, AreFirstRows, AreFirstValues, IsKeyThere}
+use Rattle.pq_scan.specs.Scanned.{AreReadOf}
 use Rattle.pq_index_scan.specs.declared.limit.Entries.{Entries}
 use Rattle.pq_index_scan.specs.declared.limit.LimitRange.{LimitRange}
 
@@ -60,6 +61,65 @@ ends_behind tables query params range input =
     cond (has_null (cells_tied query params range.rel input range.first)) None
     (Some (record { low = low; high = past_code low }))
 
+-- ---- what is read of any content
+
+-- the rows of the range behind an input, as a content has them; none where a tied value is NULL
+abbrev pub AreRowsBehind : List Table → Query → List Value → LimitRange → List (List Value) → List (List Value)
+    → Content → Type 0
+AreRowsBehind tables query params range input rows content =
+    AreReadOf (λ low high. AreSequenceRows range.number (table_at tables range.number) range.access low high range.n)
+    (ends_behind tables query params range input) rows content
+
+-- each input followed by each row of the range behind it: one input after the other, and behind one in the order of
+-- the range
+abbrev pub AreFollowed : List Table → Query → List Value → LimitRange → List (List (List Value))
+    → List (List (List Value)) → Content → Type 0
+AreFollowed tables query params range [] found content = found ≡ []
+AreFollowed tables query params range (input ∷ inputs) found content =
+    (rows : List (List Value)) × (rest : List (List (List Value)))
+    × AreRowsBehind tables query params range input rows content
+    × (found ≡ map (λ row. input ++ row ∷ []) rows ++ rest)
+    × AreFollowed tables query params range inputs rest content
+
+-- the range of a node
+abbrev pub node_range : List Table → Query → ℕ → ℕ → Access → LimitRange
+node_range tables query rel limit access =
+    let own = own_limit tables query rel limit in
+    record {
+      rel = rel;
+      limit = limit;
+      number = (relation_at query rel).table;
+      access = access;
+      n = own.n;
+      first = first_columns (sequence_of (table_of tables query rel) access) own.cols;
+    }
+
+-- the same for the range of a node
+abbrev pub AreRanged : List Table → Query → List Value → ℕ → ℕ → Access → List (List (List Value))
+    → List (List (List Value)) → Content → Type 0
+AreRanged tables query params rel limit access inputs found content =
+    AreFollowed tables query params (node_range tables query rel limit access) inputs found content
+
+-- the values of the entries of the range behind an input
+abbrev pub AreValuesBehind : List Table → Query → List Value → LimitRange → List (List Value) → List (List Value)
+    → Content → Type 0
+AreValuesBehind tables query params range input values content =
+    AreReadOf (λ low high. AreKeysWithin range.number (table_at tables range.number) range.access low high range.n)
+    (ends_behind tables query params range input) values content
+
+-- the entries of the ranges behind inputs from a place on, each with the place of its input
+abbrev pub AreEntriesFrom : List Table → Query → List Value → LimitRange → ℕ → List (List (List Value)) → Entries
+    → Content → Type 0
+AreEntriesFrom tables query params range place [] entries content = (entries.places ≡ []) × (entries.values ≡ [])
+AreEntriesFrom tables query params range place (input ∷ inputs) entries content =
+    (values : List (List Value)) × (rest : Entries)
+    × AllByRecursion (AllFit (sequence_types (table_at tables range.number) range.access)) values
+    × AreValuesBehind tables query params range input values content
+    × (entries.places ≡ map (λ held. place) values ++ rest.places) × (entries.values ≡ values ++ rest.values)
+    × AreEntriesFrom tables query params range (place + 1) inputs rest content
+
+-- ---- what a round answers, and what is read of it
+
 -- pairs of a store that were answered for the range behind an input
 pub record IsPartBehind (told : Option Content) (tables : List Table) (query : Query) (params : List Value)
     (range : LimitRange) (input : List (List Value)) (part : List StoredPair) : Type 0 where
@@ -74,6 +134,8 @@ pub record FollowsPart (tables : List Table) (t : ℕ) (input : List (List Value
   pub fit : AllByRecursion (AllFit (types_of (table_at tables t))) rows
   pub first : OfEachRange t Primary part (λ told low high limit.
       IfSome told (AreFirstRows t (table_at tables t) low high limit rows))
+  pub codes : OfEachRange t Primary part (λ told low high limit.
+      IfSome told (AreRowsWithin (table_at tables t) low high limit rows))
   pub is : after ≡ before ++ map (λ row. input ++ row ∷ []) rows
 
 -- the values that are read of a part, each with the place of its input, come behind what was there
@@ -86,6 +148,8 @@ pub record AddsPart (tables : List Table) (range : LimitRange) (place : ℕ) (pa
       AllByRecursion (IsKeyThere range.number (table_at tables range.number) range.access told) values)
   pub first : OfEachRange range.number range.access part (λ told low high limit.
       IfSome told (AreFirstValues range.number (table_at tables range.number) range.access low high limit values))
+  pub keys : OfEachRange range.number range.access part (λ told low high limit.
+      IfSome told (AreKeysWithin range.number (table_at tables range.number) range.access low high limit values))
   pub places_are : after.places ≡ before.places ++ map (λ held. place) values
   pub values_are : after.values ≡ before.values ++ values
 
@@ -112,6 +176,7 @@ pub record AreEntriesBehind (told : Option Content) (tables : List Table) (query
   pub within : AllByRecursion (λ place. place < length inputs) entries.places
   pub fit : AllByRecursion (AllFit (sequence_types (table_at tables range.number) range.access)) entries.values
   pub there : AllByRecursion (IsKeyThere range.number (table_at tables range.number) range.access told) entries.values
+  pub codes : IfSome told (AreEntriesFrom tables query params range 0 first entries)
   pub answer : (rows : Rows) (others : List Pair) → HoldsRows told tables rows others
       → NamesRanged tables query params range rows inputs first entries
 

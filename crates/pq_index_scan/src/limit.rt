@@ -1,5 +1,5 @@
 //! One range for each input, under the tied values of a limit's columns, all asked at once.
-ghost use Rattle.std.specs.Prelude.{◌≡◌, ◌≤◌, ◌<◌, ◌+◌, ◌*◌, ◌++◌, ◌∷◌, [], All, map, length, None, IfOk, IfErr, OnOk};
+ghost use Rattle.std.specs.Prelude.{◌≡◌, ◌≤◌, ◌<◌, ◌+◌, ◌*◌, ◌++◌, ◌∷◌, [], All, map, length, None, IfOk, IfErr, IfSome, OnOk};
 ghost use Rattle.std.specs.List.{AllByRecursion, AllZip};
 ghost use Rattle.pq_schema.specs.Costs.{limit_cost};
 ghost use Rattle.pq_schema.specs.Resolved.{IsResolved};
@@ -15,7 +15,7 @@ ghost use Rattle.pq_nodes.specs.Operators.{IsAsked, IsReadyNode, AreInputs, Affo
 ghost use Rattle.pq_nodes.specs.Paid.{node_cost};
 ghost use Rattle.pq_operands.specs.Ties.{cells_tied};
 ghost use Rattle.pq_entries.specs.Entries.{IsSequence, OfEachRange, IsUnread, OneShows, TellsPair, key_front};
-ghost use Rattle.pq_index_scan.specs.Ranged.{limit_node, first_of_range, ends_behind, IsRangeOf, IsPartBehind, FollowsPart, AddsPart, AreEntriesBehind, followed_at, AddsRanged};
+ghost use Rattle.pq_index_scan.specs.Ranged.{limit_node, first_of_range, ends_behind, IsRangeOf, IsPartBehind, FollowsPart, AddsPart, AreEntriesBehind, AreFollowed, AreRanged, followed_at, AddsRanged};
 
 use pq_base::{Bytes, ColSet, List, NoMem, Row, has_null};
 use pq_calls::Calls;
@@ -242,6 +242,8 @@ fn range_primary<S: Store<L>, L: Ledger>(
     ensures answered { IfErr result (IsAnswered S.answers) }
     ensures few { IfOk result (λ found. length found ≤ length inputs.now * range.now.n) }
     ensures fit { IfOk result (AllByRecursion (FitsTables catalog.now.tables query.now range.now.rel)) }
+    ensures codes { IfOk result (λ found. IfSome (S.content calls.old.store.now)
+        (AreFollowed catalog.now.tables query.now params.now range.now inputs.now found)) }
     ensures answer { IfOk result (AddsRanged (S.content calls.old.store.now) catalog.now.tables query.now
         params.now range.now.rel range.now.limit inputs.now []) }
 {
@@ -384,6 +386,8 @@ fn range_secondary<S: Store<L>, L: Ledger>(
     ensures answered { IfErr result (IsAnswered S.answers) }
     ensures few { IfOk result (λ found. length found ≤ length inputs.now * range.now.n) }
     ensures fit { IfOk result (AllByRecursion (FitsTables catalog.now.tables query.now range.now.rel)) }
+    ensures codes { IfOk result (λ found. IfSome (S.content calls.old.store.now)
+        (AreFollowed catalog.now.tables query.now params.now range.now inputs.now found)) }
     ensures answer { IfOk result (AddsRanged (S.content calls.old.store.now) catalog.now.tables query.now
         params.now range.now.rel range.now.limit inputs.now []) }
 {
@@ -417,6 +421,8 @@ fn range_each<S: Store<L>, L: Ledger>(
     ensures answered { IfErr result (IsAnswered S.answers) }
     ensures few { IfOk result (λ found. length found ≤ length inputs.now * range.now.n) }
     ensures fit { IfOk result (AllByRecursion (FitsTables catalog.now.tables query.now range.now.rel)) }
+    ensures codes { IfOk result (λ found. IfSome (S.content calls.old.store.now)
+        (AreFollowed catalog.now.tables query.now params.now range.now inputs.now found)) }
     ensures answer { IfOk result (AddsRanged (S.content calls.old.store.now) catalog.now.tables query.now
         params.now range.now.rel range.now.limit inputs.now []) }
 {
@@ -455,6 +461,8 @@ fn run_range<S: Store<L>, L: Ledger>(
     ensures answered { IfErr result (IsAnswered S.answers) }
     ensures found { IfOk result (AreFound catalog.now.tables query.now rel (length inputs.now)
         (limit_node catalog.now.tables query.now rel limit access)) }
+    ensures codes { IfOk result (λ found. IfSome (S.content calls.old.store.now)
+        (AreRanged catalog.now.tables query.now params.now rel limit access inputs.now found)) }
     ensures answer { IfOk result (AnswersNode (S.content calls.old.store.now) catalog.now.tables query.now
         params.now None inputs.now (limit_node catalog.now.tables query.now rel limit access)) }
 {
@@ -486,6 +494,9 @@ pub fn limit_range<S: Store<L>, L: Ledger>(
     requires inputs { AreInputs catalog.now.tables query.now rel inputs }
     requires share { AffordsNode allowance.old (length inputs)
         (limit_node catalog.now.tables query.now rel limit access) }
+    // Over any content that is told, no row is passed over, and none stands in for another.
+    ensures codes { IfOk result (λ found. IfSome (S.content store.old)
+        (AreRanged catalog.now.tables query.now params.now rel limit access inputs found)) }
     ensures answer { IfOk result (AnswersNode (S.content store.old) catalog.now.tables query.now params.now None
         inputs (limit_node catalog.now.tables query.now rel limit access)) }
     ensures reads { ReadsNode (world (S.content store.old) (S.faults store.old) allowance.old meter.old)

@@ -1,9 +1,10 @@
 //! The stop read of relation 1.
-ghost use Rattle.std.specs.Prelude.{◌≡◌, ◌∷◌, [], option_copied, IfOk, IfErr};
+ghost use Rattle.std.specs.Prelude.{◌≡◌, ◌∷◌, [], option_copied, IfOk, IfErr, IfSome};
 ghost use Rattle.pq_store.specs.Breaks.{IsAnswered};
 ghost use Rattle.pq_calls.specs.World.{world};
 ghost use Rattle.pq_plan.specs.Nodes.{stop_scan};
 ghost use Rattle.pq_nodes.specs.Operators.{IsAsked, IsReadyNode, IsCursor, AffordsNode, ReadsNode, AreFound, AnswersNode, StopsReading, IsSoundOverRows};
+ghost use Rattle.pq_scan.specs.Scanned.{AreFirstScanned};
 
 use pq_base::{List, NoMem, Row};
 use pq_calls::Calls;
@@ -43,6 +44,10 @@ pub fn index_scan<S: Store<L>, L: Ledger>(
     requires first { rel ≡ 1 }
     requires cursor { IsCursor catalog.now.tables query.now (option_copied after) }
     requires share { AffordsNode allowance.old 1 (stop_scan rel k access) }
+    // Over any content that is told, no pair is passed over, and no row stands in for another.
+    ensures codes { IfOk result (λ found. IfSome (S.content store.old)
+        (AreFirstScanned catalog.now.tables query.now params.now rel access (option_copied after.entry) k
+        ([] ∷ []) found)) }
     ensures answer { IfOk result (AnswersNode (S.content store.old)
         catalog.now.tables query.now params.now (option_copied after.entry) ([] ∷ []) (stop_scan rel k access)) }
     ensures reads { ReadsNode (world (S.content store.old) (S.faults store.old) allowance.old meter.old)

@@ -1,5 +1,5 @@
 //! The answer of a query that is run once, which no definition has.
-ghost use Rattle.std.specs.Prelude.{◌≡◌, ◌<◌, [], length, IfOk, IfErr};
+ghost use Rattle.std.specs.Prelude.{◌≡◌, ◌<◌, [], length, IfOk, IfErr, IfSome};
 ghost use Rattle.pq_store.specs.Breaks.{IfDamaged, IsAnswered};
 ghost use Rattle.pq_store.specs.Content.{HasBrokeCause};
 ghost use Rattle.pq_calls.specs.World.{where_told};
@@ -8,7 +8,7 @@ ghost use Rattle.pq_exec.specs.Execution.{RisesByUsed, RisesWithin};
 ghost use Rattle.pq_plan.specs.Cost.{cost};
 ghost use Rattle.pq_runnable.specs.Runnable.{IsRunnablePlan};
 ghost use Rattle.pq_running.specs.Running.{query_bound};
-ghost use Rattle.pq_pages.specs.Paging.{IsAnswerOf};
+ghost use Rattle.pq_pages.specs.Paging.{IsAnswerOf, IsOnceIn};
 
 use crate::page::Page;
 use pq_base::Row;
@@ -39,6 +39,9 @@ pub fn run_once<S: Store<L>, L: Ledger>(
     // Over a content that holds rows.
     ensures answer { IfOk result (IsAnswerOf (S.content store.old) catalog.now.tables query.now) }
     ensures undamaged { IfErr result (IsSoundOverRows (S.content store.old) catalog.now.tables) }
+    // Over any content that is told its rows are made of what the plan finds there: nothing is passed over.
+    ensures codes { IfOk result (λ page. IfSome (S.content store.old) (IsOnceIn catalog.now.tables query.now plan.now
+        page)) }
     // Over every store.
     ensures few { IfOk result (λ page. length page.rows < 4294967296) }
     ensures bound { IfOk result (λ page. page.bound ≡ query_bound catalog.now.tables query.now) }

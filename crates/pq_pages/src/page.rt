@@ -13,7 +13,7 @@ ghost use Rattle.pq_cursor.specs.Cursors.{cursor_text};
 ghost use Rattle.pq_nodes.specs.Combos.{position_types};
 ghost use Rattle.pq_schema.specs.Resolved.{IsResolved};
 ghost use Rattle.pq_running.specs.Running.{IsQueryNumber, next_cursor, position_dirs, query_bound, running_with};
-ghost use Rattle.pq_pages.specs.Paging.{IsPageOf};
+ghost use Rattle.pq_pages.specs.Paging.{IsPageIn, IsPageOf};
 
 use pq_base::{Bound, List, NoMem, PText, Row, Stopped, Used};
 use pq_cursor::cursor_text;
@@ -97,6 +97,9 @@ pub fn run_page<S: Store<L>, L: Ledger>(
     ensures page { IfOk result (IsPageOf (S.content store.old) catalog.now.tables
         (running_with number (query_at catalog.now number) params.now (option_copied after.entry))) }
     ensures undamaged { IfErr result (IsSoundOverRows (S.content store.old) catalog.now.tables) }
+    // Over any content that is told its rows are made of what the plan finds there: nothing is passed over.
+    ensures codes { IfOk result (λ page. IfSome (S.content store.old) (IsPageIn catalog.now.tables
+        (running_with number (query_at catalog.now number) params.now (option_copied after.entry)) plan.now page)) }
     // Over every store.
     ensures few { IfOk result (λ page. length page.rows < 4294967296) }
     ensures bound { IfOk result (λ page. page.bound ≡ query_bound catalog.now.tables (query_at catalog.now number)) }

@@ -27,9 +27,11 @@ use Rattle.pq_nodes.specs.Operators.{IsCursor, ShowsRead}
 use Rattle.pq_serving.specs.Scanning.{passes}
 use Rattle.pq_scan.specs.declared.prepared.Scan.{Scan}
 use Rattle.pq_scan.specs.Asked.{input_at, range_of, range_asked, constants_asked, AddsHeld}
-use Rattle.pq_scan.specs.Candidates.{Candidate, scanned_table, AreFirst, IsCandidate, AddsCandidates, candidate_at}
+use Rattle.pq_scan.specs.Candidates.{Candidate, scanned_table, AreHeldWithin, AreFirst, IsHeld, IsCandidate, AddsCandidates, candidate_at}
 use Rattle.pq_scan.specs.Inputs.{low_code, high_code}
 use Rattle.pq_scan.specs.Prepared.{asked_over, IsScannable}
+use Rattle.pq_scan.specs.Scanned.{AreReadOf}
+use Rattle.pq_scan.proofs.Gathered.{AddsGathered}
 use Rattle.pq_scan.proofs.Steps.{each_at}
 use Rattle.pq_scan.proofs.Reading.{adds, skips, kept_more}
 
@@ -63,12 +65,17 @@ first_none t table Primary low high limit content is = λ rows fit range. nothin
 first_none t table (Secondary index) low high limit content is = λ rows fit range.
     ap (map (values_of (sequence_of table (Secondary index)))) (nothing_taken (pair_of t table (Secondary index)) limit rows (is ∙ ap (take limit) range))
 
+within_none : (t : ℕ) (table : Table) (access : Access) (low high : List ℕ) (limit : ℕ) (content : Content) → [] ≡ take limit (pairs_within content low high) → AreHeldWithin t table access low high limit [] content
+within_none t table Primary low high limit content is = ap (map (λ pair. pair.1)) is
+within_none t table (Secondary index) low high limit content is = ap (map (λ pair. pair.0)) is
+
 -- of no pairs nothing is kept
 pub none_held : (scan : Scan) (constants : List (Option Value)) (place : ℕ) (pairs : List Pair) (old : List Candidate) → pairs ≡ [] → AddsHeld scan constants place pairs old old
 none_held scan constants place pairs old is = record {
   held = [];
   long = sym (ap (λ (l : List Pair). length l) is);
   fit = λ told low high limit of. tt;
+  within = λ told low high limit of. within told low high limit of.are;
   first = λ told low high limit of. by told low high limit of.are;
   is = sym (append-nil old);
 }
@@ -76,6 +83,10 @@ none_held scan constants place pairs old is = record {
     by : (told : Option Content) (low high : List ℕ) (limit : ℕ) → IfSome told (λ content. map entry pairs ≡ take limit (pairs_within content low high)) → IfSome told (AreFirst scan.number (scanned_table scan) scan.access low high limit [])
     by None low high limit are = tt
     by (Some content) low high limit are = first_none scan.number (scanned_table scan) scan.access low high limit content (ap (map entry) (sym is) ∙ are)
+
+    within : (told : Option Content) (low high : List ℕ) (limit : ℕ) → IfSome told (λ content. map entry pairs ≡ take limit (pairs_within content low high)) → IfSome told (AreHeldWithin scan.number (scanned_table scan) scan.access low high limit [])
+    within None low high limit are = tt
+    within (Some content) low high limit are = within_none scan.number (scanned_table scan) scan.access low high limit content (ap (map entry) (sym is) ∙ are)
 
 -- ---- one input
 
@@ -132,10 +143,36 @@ module _ (scan : Scan) (after : Option (List Value)) (combo : List (List Value))
     constants_as : passed ≡ true → constants ≡ (input_at scan combo).constants
     constants_as is = constants_is ∙ ap (λ (b : Bool). cond b (input_at scan combo).constants []) is
 
+    none_kept : passed ≡ false → made.held ≡ []
+    none_kept is = nil_from_length made.held (made.long ∙ ap (λ (l : List Pair). length l) (no_pairs is))
+
     none_added : passed ≡ false → new ≡ old
-    none_added is =
-        let long = made.long ∙ ap (λ (l : List Pair). length l) (no_pairs is) in
-        made.is ∙ ap (λ (l : List (List Value)). old ++ map (candidate_at scan constants place) l) (nil_from_length made.held long) ∙ append-nil old
+    none_added is = made.is ∙ ap (λ (l : List (List Value)). old ++ map (candidate_at scan constants place) l) (none_kept is) ∙ append-nil old
+
+    -- in any content
+    abbrev Within : Option Ends → Content → Type 0
+    Within ends content = AreReadOf (λ low high. AreHeldWithin scan.number (scanned_table scan) scan.access low high limit) ends made.held content
+
+    adds_gathered : (o : Option Content) → AllByRecursion (IsHeld scan o) made.held → IfSome o (Within (range_asked scan after combo)) → IfSome o (AddsGathered scan limit after place combo old new)
+    adds_gathered None fit within = tt
+    adds_gathered (Some content) fit within =
+        (made.held, record { fit = fit; within = within }, made.is ∙ ap (λ (gs : List (Option Value)). old ++ map (candidate_at scan gs place) made.held) constants_is)
+
+    nothing : (o : Option Content) → made.held ≡ [] → IfSome o (Within None)
+    nothing None none = tt
+    nothing (Some content) none = none
+
+    pub found_gathered : IfSome told (AddsGathered scan limit after place combo old new)
+    found_gathered = by passed refl
+      where
+        by : (b : Bool) → passed ≡ b → IfSome told (AddsGathered scan limit after place combo old new)
+        by true is =
+            let of = of_range told are is in
+            adds_gathered told (made.fit told range.low range.high limit of)
+            (subst (λ (o : Option Ends). IfSome told (Within o)) (sym (asked_as true is)) (made.within told range.low range.high limit of))
+        by false is =
+            adds_gathered told (subst (AllByRecursion (IsHeld scan told)) (sym (none_kept is)) tt)
+            (subst (λ (o : Option Ends). IfSome told (Within o)) (sym (asked_as false is)) (nothing told (none_kept is)))
 
     pub found_adds : IsScannable scan → IsCursor scan.catalog.now.tables scan.query.now after → FitsTables scan.catalog.now.tables scan.query.now (scan.rel - 1) combo → AddsCandidates scan told limit after place combo old new
     found_adds ready cursor fits = by passed refl

@@ -26,6 +26,11 @@ module _ {S L : Type 0} (content : S → Option Content) (faults : S → ℕ) wh
 pub each_at : {X : Type 0} (P : X → Type 0) (xs : List X) (i : ℕ) (x : X) → AllByRecursion P xs → i < length xs → x ≡ get_or xs i x → P x
 each_at P xs i x h within at = subst P (sym at) (each_in P xs h (get_or xs i x) (at_in xs i x within))
 
+pub length_front : {X : Type 0} (xs : List X) (i : ℕ) → i < length xs → length (take i xs) ≡ i
+length_front xs zero h = refl
+length_front [] (suc i) h = absurd (omega arith)
+length_front (x ∷ xs) (suc i) h = ap suc (length_front xs i (omega arith))
+
 module _ (scan : Scan) (told : Option Content) where
   -- the candidates of one more input
   all_last : (rows : Rows) (k : ℕ) (after : Option (List Value)) (place : ℕ) (inputs : List (List (List Value))) (c : List (List Value)) → all_candidates scan rows k after place (inputs ++ c ∷ []) ≡ all_candidates scan rows k after place inputs ++ input_candidates scan rows k after (place + length inputs) c
@@ -34,11 +39,6 @@ module _ (scan : Scan) (told : Option Content) where
       ap (λ (l : List Candidate). input_candidates scan rows k after place d ++ l) (all_last rows k after (place + 1) ds c
       ∙ ap (λ (n : ℕ). all_candidates scan rows k after (place + 1) ds ++ input_candidates scan rows k after n c) (let e : (place + 1) + length ds ≡ place + suc (length ds) = omega arith in e))
       ∙ sym (append_assoc (input_candidates scan rows k after place d) (all_candidates scan rows k after (place + 1) ds) (input_candidates scan rows k after (place + suc (length ds)) c))
-
-  length_front : {X : Type 0} (xs : List X) (i : ℕ) → i < length xs → length (take i xs) ≡ i
-  length_front xs zero h = refl
-  length_front [] (suc i) h = absurd (omega arith)
-  length_front (x ∷ xs) (suc i) h = ap suc (length_front xs i (omega arith))
 
   pub candidates_more : (k : ℕ) (after : Option (List Value)) (inputs : List (List (List Value))) (i : ℕ) (c : List (List Value)) (old new : List Candidate) → i < length inputs → c ≡ get_or inputs i c → AreCandidates scan told k after (take i inputs) old → AddsCandidates scan told k after i c old new → AreCandidates scan told k after (take (i + 1) inputs) new
   candidates_more k after inputs i c old new within at before adds = λ rows others h.

@@ -9,7 +9,7 @@ use Rattle.pq_operands.specs.Ties.{cells_tied}
 use Rattle.pq_serving.specs.Scanning.{constant, passes}
 use Rattle.pq_scan.specs.declared.keys.Input.{Input}
 use Rattle.pq_scan.specs.declared.prepared.Scan.{Scan}
-use Rattle.pq_scan.specs.Candidates.{Candidate, scanned_table, AreFirst, IsHeld, candidate_at}
+use Rattle.pq_scan.specs.Candidates.{Candidate, scanned_table, AreHeldWithin, AreFirst, IsHeld, candidate_at}
 use Rattle.pq_scan.specs.Inputs.{low_code, high_code}
 use Rattle.pq_scan.specs.Prepared.{asked_over}
 
@@ -45,6 +45,8 @@ pub record AddsHeld (scan : Scan) (constants : List (Option Value)) (place : ℕ
   pub long : length held ≡ length pairs
   pub fit : OfEachRange scan.number scan.access pairs
       (λ told low high limit. AllByRecursion (IsHeld scan told) held)
+  pub within : OfEachRange scan.number scan.access pairs (λ told low high limit.
+      IfSome told (AreHeldWithin scan.number (scanned_table scan) scan.access low high limit held))
   pub first : OfEachRange scan.number scan.access pairs (λ told low high limit.
       IfSome told (AreFirst scan.number (scanned_table scan) scan.access low high limit held))
   pub is : after ≡ before ++ map (candidate_at scan constants place) held

@@ -16,7 +16,7 @@ use Rattle.pq_store.specs.Content.{Content}
 use Rattle.pq_calls.specs.Keys.{sequence_types}
 use Rattle.pq_content.specs.Pairs.{Pair, HoldsRows}
 use Rattle.pq_content.specs.Tables.{values_of}
-use Rattle.pq_entries.specs.Entries.{IsEntryThere, AreFirstRows, AreFirstValues}
+use Rattle.pq_entries.specs.Entries.{IsEntryThere, AreRowsWithin, AreKeysWithin, AreFirstRows, AreFirstValues}
 use Rattle.pq_plan.specs.Answer.{position}
 use Rattle.pq_serving.specs.Scanning.{found}
 use Rattle.pq_serving.specs.Starts.{filled_values}
@@ -47,6 +47,12 @@ IsHeldOf table t told (Secondary index) held =
 
 abbrev pub IsHeld : Scan → Option Content → List Value → Type 0
 IsHeld scan told held = IsHeldOf (scanned_table scan) scan.number told scan.access held
+
+-- what is kept of the first pairs of a range, as a content has them
+abbrev pub AreHeldWithin : ℕ → Table → Access → List ℕ → List ℕ → ℕ → List (List Value) → Content → Type 0
+AreHeldWithin t table Primary low high limit held content = AreRowsWithin table low high limit held content
+AreHeldWithin t table (Secondary index) low high limit held content =
+    AreKeysWithin t table (Secondary index) low high limit held content
 
 -- what is kept of the first rows of a range
 abbrev pub AreFirst : ℕ → Table → Access → List ℕ → List ℕ → ℕ → List (List Value) → Content → Type 0

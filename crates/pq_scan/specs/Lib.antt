@@ -4,3 +4,4 @@ pub mod Ends
 pub mod Inputs
 pub mod Merging
 pub mod Prepared
+pub mod Scanned

@@ -1,5 +1,5 @@
 //! The rows of candidates, behind their inputs.
-ghost use Rattle.std.specs.Prelude.{◌≡◌, ◌<◌, ◌++◌, ◌∷◌, [], map, length, IfOk, IfErr};
+ghost use Rattle.std.specs.Prelude.{◌≡◌, ◌<◌, ◌++◌, ◌∷◌, [], map, length, IfOk, IfErr, IfSome};
 ghost use Rattle.std.specs.List.{AllByRecursion};
 ghost use Rattle.pq_base.specs.Values.{AllFit};
 ghost use Rattle.pq_schema.specs.Rows.{types_of};
@@ -10,6 +10,7 @@ ghost use Rattle.pq_nodes.specs.Combos.{FitsTables};
 ghost use Rattle.pq_nodes.specs.Operators.{AreInputs, ShowsRead};
 ghost use Rattle.pq_scan.specs.Candidates.{scanned_table, kept_in, place_in, IsHeld, IsCandidate, AreRowsOf, AreCombosOf, rows_behind, fetches};
 ghost use Rattle.pq_scan.specs.Prepared.{IsScannable};
+ghost use Rattle.pq_scan.specs.Scanned.{AreRowsKept, AreFetched};
 
 use crate::candidates::{Candidate, Found};
 use crate::merge::Placed;
@@ -66,6 +67,8 @@ fn rows_of<S: Store<L>, L: Ledger>(
     ensures answered { IfErr result (IsAnswered S.answers) }
     ensures long { IfOk result (λ rows. length rows ≡ length held) }
     ensures fit { IfOk result (AllByRecursion (AllFit (types_of (scanned_table scan.now)))) }
+    ensures codes { IfOk result (λ rows. IfSome (S.content calls.old.store.now)
+        (AreRowsKept scan.now.number (scanned_table scan.now) scan.now.access held rows)) }
     ensures answer { IfOk result (AreRowsOf scan.now (S.content calls.old.store.now) held) }
 {
     match scan.access {
@@ -133,6 +136,9 @@ pub(crate) fn combos_of<S: Store<L>, L: Ledger>(
     ensures size { IfOk result (λ found. length found ≡ length candidates) }
     ensures fit { IfOk result (AllByRecursion
         (FitsTables scan.now.catalog.now.tables scan.now.query.now scan.now.rel)) }
+    // Over any content that is told, each row stands where its entry says.
+    ensures codes { IfOk result (λ found. IfSome (S.content calls.old.store.now)
+        (AreFetched scan.now inputs.now candidates found)) }
     ensures answer { IfOk result (AreCombosOf scan.now (S.content calls.old.store.now) inputs.now candidates) }
 {
     let Kept { places, held } = kept_of(alloc, candidates)?;

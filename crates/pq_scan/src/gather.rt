@@ -1,5 +1,5 @@
 //! The candidates of all inputs, and the first of them by position.
-ghost use Rattle.std.specs.Prelude.{◌≡◌, ◌≤◌, ◌*◌, ◌-◌, length, take, option_copied, IfOk, IfErr, OnOk};
+ghost use Rattle.std.specs.Prelude.{◌≡◌, ◌≤◌, ◌*◌, ◌-◌, length, take, option_copied, IfOk, IfErr, IfSome};
 ghost use Rattle.std.specs.List.{AllByRecursion};
 ghost use Rattle.pq_base.specs.Sorting.{sort_by};
 ghost use Rattle.pq_store.specs.Content.{key_cmp};
@@ -11,6 +11,7 @@ ghost use Rattle.pq_nodes.specs.Operators.{AreInputs, IsCursor, ShowsRead};
 ghost use Rattle.pq_scan.specs.Candidates.{IsCandidate, AreCandidates};
 ghost use Rattle.pq_scan.specs.Merging.{place_of};
 ghost use Rattle.pq_scan.specs.Prepared.{IsScannable};
+ghost use Rattle.pq_scan.specs.Scanned.{AreGathered};
 
 use crate::asks::asks_of;
 use crate::candidates::Candidate;
@@ -45,6 +46,9 @@ pub(crate) fn gather<S: Store<L>, L: Ledger>(
     ensures answered { IfErr result (IsAnswered S.answers) }
     ensures kept { IfOk result (AllByRecursion (IsCandidate scan.now (S.content calls.old.store.now)
         (length inputs.now))) }
+    // Over any content that is told, no pair of a range is passed over.
+    ensures codes { IfOk result (λ found. IfSome (S.content calls.old.store.now)
+        (AreGathered scan.now limit (option_copied after.entry) 0 inputs.now found)) }
     ensures answer { IfOk result (AreCandidates scan.now (S.content calls.old.store.now) limit
         (option_copied after.entry) inputs.now) }
 {

@@ -6,7 +6,7 @@ ghost use Rattle.pq_calls.specs.World.{where_told};
 ghost use Rattle.pq_entries.specs.Entries.{IsSequence, OfEachRange, IsUnread, OneShows, TellsPair, key_front};
 ghost use Rattle.pq_nodes.specs.Operators.{ShowsRead};
 ghost use Rattle.pq_scan.specs.Asked.{AddsHeld};
-ghost use Rattle.pq_scan.specs.Candidates.{scanned_table, AreFirst, IsHeld};
+ghost use Rattle.pq_scan.specs.Candidates.{scanned_table, AreHeldWithin, AreFirst, IsHeld};
 
 use crate::candidates::{Candidate, add_candidates};
 use crate::prepared::Scan;
@@ -26,6 +26,9 @@ fn held_in(alloc: Global, scan: &Scan<'_>, pairs: &[Pair]) -> Result<List<Row>, 
     ensures long { IfOk result (λ held. length held ≡ length pairs.now) }
     ensures fit { IfOk result (λ held. OfEachRange scan.now.number scan.now.access pairs.now
         (λ told low high limit. AllByRecursion (IsHeld scan.now told) held)) }
+    ensures within { IfOk result (λ held. OfEachRange scan.now.number scan.now.access pairs.now
+        (λ told low high limit. IfSome told
+        (AreHeldWithin scan.now.number (scanned_table scan.now) scan.now.access low high limit held))) }
     ensures first { IfOk result (λ held. OfEachRange scan.now.number scan.now.access pairs.now
         (λ told low high limit. IfSome told
         (AreFirst scan.now.number (scanned_table scan.now) scan.now.access low high limit held))) }

@@ -1,5 +1,5 @@
 //! A stop scan over its inputs.
-ghost use Rattle.std.specs.Prelude.{◌≤◌, option_copied, length, IfOk, IfErr};
+ghost use Rattle.std.specs.Prelude.{◌≤◌, option_copied, length, IfOk, IfErr, IfSome};
 ghost use Rattle.pq_store.specs.Breaks.{IsAnswered};
 ghost use Rattle.pq_calls.specs.Calls.{Uses, Fails};
 ghost use Rattle.pq_calls.specs.World.{where_told};
@@ -7,6 +7,7 @@ ghost use Rattle.pq_nodes.specs.Operators.{AffordsNode, AreFound, AreInputs, Ans
 ghost use Rattle.pq_nodes.specs.Paid.{node_cost};
 ghost use Rattle.pq_plan.specs.Nodes.{stop_scan};
 ghost use Rattle.pq_scan.specs.Prepared.{IsScannable};
+ghost use Rattle.pq_scan.specs.Scanned.{AreScanned, AreFirstScanned};
 
 use crate::fetch::combos_of;
 use crate::gather::{first_few, gather};
@@ -42,6 +43,8 @@ fn run<S: Store<L>, L: Ledger>(
     ensures answered { IfErr result (IsAnswered S.answers) }
     ensures found { IfOk result (AreFound scan.now.catalog.now.tables scan.now.query.now scan.now.rel
         (length inputs.now) (stop_scan scan.now.rel k scan.now.access)) }
+    ensures codes { IfOk result (λ found. IfSome (S.content calls.old.store.now)
+        (AreScanned scan.now (option_copied after.entry) k inputs.now found)) }
     ensures answer { IfOk result (AnswersNode
         (S.content calls.old.store.now) scan.now.catalog.now.tables scan.now.query.now scan.now.params.now
         (option_copied after.entry) inputs.now (stop_scan scan.now.rel k scan.now.access)) }
@@ -78,6 +81,10 @@ pub fn scan_inputs<S: Store<L>, L: Ledger>(
     ensures answered { IfErr result (IsAnswered S.answers) }
     ensures found { IfOk result (AreFound catalog.now.tables query.now rel (length inputs.now)
         (stop_scan rel k access)) }
+    // Over any content that is told, no pair is passed over, and no row stands in for another.
+    ensures codes { IfOk result (λ found. IfSome (S.content calls.old.store.now)
+        (AreFirstScanned catalog.now.tables query.now params.now rel access (option_copied after.entry) k
+        inputs.now found)) }
     ensures answer { IfOk result (AnswersNode (S.content calls.old.store.now) catalog.now.tables query.now params.now
         (option_copied after.entry) inputs.now (stop_scan rel k access)) }
 {

@@ -1,9 +1,10 @@
 //! The sorted join.
-ghost use Rattle.std.specs.Prelude.{length, option_copied, IfOk, IfErr};
+ghost use Rattle.std.specs.Prelude.{length, option_copied, IfOk, IfErr, IfSome};
 ghost use Rattle.pq_store.specs.Breaks.{IsAnswered};
 ghost use Rattle.pq_calls.specs.World.{world};
 ghost use Rattle.pq_plan.specs.Nodes.{stop_scan};
 ghost use Rattle.pq_nodes.specs.Operators.{IsAsked, IsReadyNode, AreInputs, IsCursor, AffordsNode, ReadsNode, AreFound, AnswersNode, StopsReading, IsSoundOverRows};
+ghost use Rattle.pq_scan.specs.Scanned.{AreFirstScanned};
 
 use pq_base::{List, Row};
 use pq_calls::Calls;
@@ -36,6 +37,10 @@ pub fn sorted_join<S: Store<L>, L: Ledger>(
     requires inputs { AreInputs catalog.now.tables query.now rel inputs }
     requires cursor { IsCursor catalog.now.tables query.now (option_copied after) }
     requires share { AffordsNode allowance.old (length inputs) (stop_scan rel k access) }
+    // Over any content that is told, no pair is passed over, and no row stands in for another.
+    ensures codes { IfOk result (λ found. IfSome (S.content store.old)
+        (AreFirstScanned catalog.now.tables query.now params.now rel access (option_copied after.entry) k
+        inputs found)) }
     ensures answer { IfOk result (AnswersNode (S.content store.old) catalog.now.tables query.now params.now
         (option_copied after.entry) inputs (stop_scan rel k access)) }
     ensures reads { ReadsNode (world (S.content store.old) (S.faults store.old) allowance.old meter.old)

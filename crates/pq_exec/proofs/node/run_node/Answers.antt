@@ -1,6 +1,8 @@
-use Rattle.std.proofs.Common.{refl}
+use Rattle.std.proofs.Common.{refl, option_copied}
 use Rattle.pq_plan.specs.Nodes.{keep, sort, cut}
-use Rattle.pq_exec.proofs.Parts.{part_given}
+use Rattle.pq_local_ops.specs.Lists.{AreKept, AreOrdered}
+use Rattle.pq_exec.specs.Execution.{IsCutOf}
+use Rattle.pq_exec.proofs.Parts.{part_given, in_any}
 use Rattle.pq_exec.proofs.node.run_node.Goals as goal
 
 pub returns-in_ok-keep_matching-in-Filter-clause-given : goal.returns-in_ok-keep_matching-in-Filter-clause-given
@@ -27,3 +29,21 @@ returns-in-LimitRange-clause-answer g c = rw c.in-LimitRange.is c.limit_range.en
 
 pub read_stop-requires-clause-ready : goal.read_stop-requires-clause-ready
 read_stop-requires-clause-ready g c = rw c.in-StopScan.is at c.requires.ready
+
+pub returns-in-LimitRange-clause-codes : goal.returns-in-LimitRange-clause-codes
+returns-in-LimitRange-clause-codes g c = rw c.in-LimitRange.is c.limit_range.ensures.codes
+
+pub returns-in_ok-keep_matching-in-Filter-clause-codes : goal.returns-in_ok-keep_matching-in-Filter-clause-codes
+returns-in_ok-keep_matching-in-Filter-clause-codes g c =
+    let request = c.args.request.now in
+    rw c.in-Filter.is (in_any (g.S.Store.content c.args.store.now) (AreKept request.query.now request.params.now c.in-Filter.rel c.args.inputs c.in_ok-keep_matching-in-Filter.field-0) c.in_ok-keep_matching-in-Filter.ensures.kept)
+
+pub returns-in_ok-sort_combos-in-Sort-clause-codes : goal.returns-in_ok-sort_combos-in-Sort-clause-codes
+returns-in_ok-sort_combos-in-Sort-clause-codes g c =
+    let request = c.args.request.now in
+    rw c.in-Sort.is (in_any (g.S.Store.content c.args.store.now) (AreOrdered request.catalog.now.tables request.query.now c.args.inputs c.in_ok-sort_combos-in-Sort.field-0) c.in_ok-sort_combos-in-Sort.ensures.ordered)
+
+pub returns-in_ok-cut_page-in-Cut-clause-codes : goal.returns-in_ok-cut_page-in-Cut-clause-codes
+returns-in_ok-cut_page-in-Cut-clause-codes g c =
+    let request = c.args.request.now in
+    rw c.in-Cut.is (in_any (g.S.Store.content c.args.store.now) (IsCutOf request.catalog.now.tables request.query.now (option_copied request.after) c.in-Cut.k c.args.inputs c.in_ok-cut_page-in-Cut.field-0) c.in_ok-cut_page-in-Cut.ensures.cut)

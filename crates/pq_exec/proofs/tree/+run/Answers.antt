@@ -1,6 +1,6 @@
 use Rattle.std.proofs.Common.{arith}
 use Rattle.std.proofs.lemmas.Result.{IfOk-weaker}
-use Rattle.pq_exec.proofs.Running.{input_smaller, input_runnable, input_share, input_reads, node_ready, node_first, node_inputs, node_share, tree_reads, tree_given, tree_answers}
+use Rattle.pq_exec.proofs.Running.{input_smaller, input_runnable, input_share, input_reads, node_ready, node_first, node_inputs, node_share, tree_reads, tree_given, tree_found, tree_answers}
 use Rattle.pq_exec.proofs.tree.+run.Goals as goal
 
 pub run-requires : goal.run-requires
@@ -53,3 +53,8 @@ returns-in_ok-inputs-in-Some-clause-given g t c =
     IfOk-weaker c.run_node.result _ _ (λ found h.
     tree_given c.args.request.now.catalog.now.tables c.args.request.now.query.now c.args.tree.now c.in-Some.input.now c.in-Some.ensures c.requires.runnable
     c.in_ok-inputs-in-Some.inputs found c.in_ok-inputs-in-Some.ensures.given h) c.run_node.ensures.given
+
+pub returns-in_ok-inputs-in-Some-clause-codes : goal.returns-in_ok-inputs-in-Some-clause-codes
+returns-in_ok-inputs-in-Some-clause-codes g t c =
+    tree_found c.args.request.now.catalog.now.tables c.args.request.now.query.now c.args.tree.now c.in-Some.input.now c.in-Some.ensures c.requires.runnable
+    c.args.request.now.params.now _ _ _ c.in_ok-inputs-in-Some.inputs c.run_node.result c.run.ensures.reads.same c.in_ok-inputs-in-Some.ensures.codes c.run_node.ensures.codes c.run_node.ensures.given

@@ -8,6 +8,7 @@ use Rattle.pq_nodes.specs.Combos.{FitsTables}
 use Rattle.pq_nodes.specs.Operators.{ShowsRead}
 use Rattle.pq_entries.proofs.Naming.{each_item}
 use Rattle.pq_entries.proofs.Told.{unread_explains}
+use Rattle.pq_scan.proofs.Steps.{length_front}
 use Rattle.pq_index_scan.specs.Ranged.{AreEntriesBehind, IsPartBehind}
 use Rattle.pq_index_scan.proofs.Following.{first_more}
 use Rattle.pq_index_scan.proofs.Parts.{part_at, answered_at, part_front, part_unread, part_answered}
@@ -76,4 +77,4 @@ loop-place-preserved g c =
     c.in_ok-parts.ensures.parts c.loop-place-test.true at c.items.ensures c.index-items-place.is c.items-part.ensures in
     let fits = each_item (FitsTables tables c.args.query.now (range.rel - 1)) inputs place input c.requires.inputs c.loop-place-test.true at in
     subst (λ (first : List (List (List Value))). AreEntriesBehind told tables c.args.query.now c.args.params.now range inputs first c.add_part.new.entries) (sym (first_more inputs place input c.loop-place-test.true at))
-    (more_entries told tables c.args.query.now c.args.params.now range inputs c.requires.asked c.requires.range place input c.loop-place-test.true at fits part behind (take place inputs) c.loop-place.entries c.add_part.new.entries c.loop-place.invariant c.in_ok-add_part.ensures.adds)
+    (more_entries told tables c.args.query.now c.args.params.now range inputs c.requires.asked c.requires.range place input c.loop-place-test.true at fits part behind (take place inputs) (length_front inputs place c.loop-place-test.true) c.loop-place.entries c.add_part.new.entries c.loop-place.invariant c.in_ok-add_part.ensures.adds)

@@ -1,4 +1,5 @@
 use Rattle.std.proofs.Common.{List, ◌-◌, [], take, subst, sym, arith}
+use Rattle.std.specs.Prelude.{IfSome}
 use Rattle.std.proofs.lemmas.Result.{err_from_is_err_and}
 use Rattle.pq_base.specs.declared.value.Value.{Value}
 use Rattle.pq_schema.specs.declared.table.Access.{Access}
@@ -9,9 +10,10 @@ use Rattle.pq_nodes.specs.Operators.{ShowsRead}
 use Rattle.pq_entries.specs.Entries.{OfEachRange, IsUnread}
 use Rattle.pq_entries.proofs.Naming.{each_item}
 use Rattle.pq_entries.proofs.Told.{unread_explains}
-use Rattle.pq_index_scan.specs.Ranged.{AddsRanged, IsPartBehind}
+use Rattle.pq_index_scan.specs.Ranged.{AreFollowed, AddsRanged, IsPartBehind}
 use Rattle.pq_index_scan.proofs.Following.{first_more}
-use Rattle.pq_index_scan.proofs.Parts.{part_at, answered_at, part_unread, part_answered, follows_few, follows_fit, follows_ranged}
+use Rattle.pq_index_scan.proofs.Parts.{part_at, answered_at, part_unread, part_answered, follows_few, follows_fit, follows_rows, follows_ranged}
+use Rattle.pq_index_scan.proofs.Read.{followed_next}
 use Rattle.pq_index_scan.proofs.limit.range_primary.Goals as goal
 
 pub returns-in_err-follow_part-clause-cause : goal.returns-in_err-follow_part-clause-cause
@@ -65,6 +67,9 @@ loop-place-preserved g c =
     record {
       few = omega (arith, few, h.few);
       fit = follows_fit tables c.args.query.now c.args.params.now range input told part behind c.requires.asked c.requires.range fits c.requires.primary before after adds h.fit;
+      codes = subst (λ (first : List (List (List Value))). IfSome told (AreFollowed tables c.args.query.now c.args.params.now range first after)) (sym (first_more c.args.inputs.now c.loop-place.place input c.loop-place-test.true c.index-inputs-place.is))
+          (followed_next tables c.args.query.now c.args.params.now range told (take c.loop-place.place c.args.inputs.now) input adds.rows before after h.codes
+          (follows_rows tables c.args.query.now c.args.params.now range input told part behind c.requires.asked c.requires.range fits c.requires.primary before after adds) adds.is);
       answer = subst (λ (first : List (List (List Value))). AddsRanged told tables c.args.query.now c.args.params.now range.rel range.limit first [] after) (sym (first_more c.args.inputs.now c.loop-place.place input c.loop-place-test.true c.index-inputs-place.is))
           (follows_ranged tables c.args.query.now c.args.params.now range input told part behind c.requires.asked c.requires.range fits c.requires.primary before after adds (take c.loop-place.place c.args.inputs.now) h.answer);
     }

@@ -1,5 +1,5 @@
 use Rattle.std.proofs.Common.{length}
-use Rattle.pq_index_scan.proofs.Following.{node_inputs, node_share, node_uses, node_found, node_answers}
+use Rattle.pq_index_scan.proofs.Following.{node_inputs, node_share, node_uses, node_found, node_codes, node_answers}
 use Rattle.pq_index_scan.proofs.limit.run_range.Goals as goal
 
 pub range_each-requires-clause-inputs : goal.range_each-requires-clause-inputs
@@ -26,3 +26,8 @@ pub returns-clause-answer : goal.returns-clause-answer
 returns-clause-answer g c =
     let is = c.in_ok-range.ensures in
     node_answers c.args.catalog.now.tables c.args.query.now c.in_ok-range.range is.range c.args.rel c.args.limit c.args.access is.rel is.limit is.access (g.S.Store.content c.args.calls.now.store.now) c.args.params.now c.args.inputs.now c.range_each.result c.range_each.ensures.answer
+
+pub returns-clause-codes : goal.returns-clause-codes
+returns-clause-codes g c =
+    let is = c.in_ok-range.ensures in
+    node_codes c.args.catalog.now.tables c.args.query.now c.in_ok-range.range is.range c.args.rel c.args.limit c.args.access is.rel is.limit is.access (g.S.Store.content c.args.calls.now.store.now) c.args.params.now c.args.inputs.now c.range_each.result c.range_each.ensures.codes

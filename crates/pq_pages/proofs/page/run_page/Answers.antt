@@ -1,6 +1,8 @@
 use Rattle.std.proofs.Common.{◌≡◌, length, option_copied, refl, arith}
+use Rattle.std.specs.Prelude.{IfSome}
+use Rattle.std.proofs.lemmas.Option.{IfSome_then}
 use Rattle.pq_schema.specs.Schema.{query_at}
-use Rattle.pq_exec.specs.Execution.{AnswersQuery}
+use Rattle.pq_exec.specs.Execution.{AnswersQuery, IsAnswerIn}
 use Rattle.pq_running.specs.Running.{next_cursor}
 use Rattle.pq_pages.proofs.Pages.{within_bound, defined_asked, defined_resolved, defined_plan, answer_page}
 use Rattle.pq_pages.proofs.page.run_page.Goals as goal
@@ -43,3 +45,15 @@ returns-clause-few g c =
 pub returns-clause-within : goal.returns-clause-within
 returns-clause-within g c =
     within_bound c.args.catalog.now.tables (query_at c.args.catalog.now c.args.number) c.args.plan.now c.requires.bound c.args.meter.now c.execute.new.meter c.execute.ensures.bound
+
+pub returns-clause-codes : goal.returns-clause-codes
+returns-clause-codes g c =
+    let tables = c.args.catalog.now.tables in
+    let query = query_at c.args.catalog.now c.args.number in
+    let told = g.S.Store.content c.args.store.now in
+    let answer = c.in_ok-answer.answer in
+    let found : IfSome told (IsAnswerIn tables query c.args.params.now (option_copied c.args.after) c.args.plan.now answer) =
+    rw (← c.query-query.ensures) c.in_ok-answer.ensures.codes in
+    let next : c.in_ok-next.next ≡ next_cursor tables c.args.number query (length answer.rows) answer.last =
+    rw (← c.query-query.ensures) c.in_ok-next.ensures in
+    IfSome_then told found (λ content so. record { answer = answer; found = so; rows = refl; next = next })

@@ -8,6 +8,7 @@ use Rattle.pq_schema.specs.Tables.{table_at}
 use Rattle.pq_nodes.specs.Combos.{FitsTables}
 use Rattle.pq_scan.specs.Candidates.{place_in, kept_in}
 use Rattle.pq_scan.proofs.Fetching.{kept_held, places_there, behind_length, behind_fit}
+use Rattle.pq_scan.proofs.Gathered.{fetched}
 use Rattle.pq_scan.proofs.fetch.combos_of.Goals as goal
 
 pub rows_of-requires-clause-held : goal.rows_of-requires-clause-held
@@ -39,3 +40,8 @@ returns-clause-fit g c =
     subst (AllByRecursion (FitsTables tables scan.query.now scan.rel)) (sym c.in_ok-behind_each.ensures)
     (behind_fit c.args.inputs.now tables scan.query.now scan.rel c.requires.ready.relation.from_one c.requires.inputs c.items.result.now there rows
     (subst (λ (n : ℕ). AllByRecursion (AllFit (types_of (table_at tables n))) rows) c.requires.ready.sound.number_is c.in_ok-rows.ensures.fit))
+
+pub returns-clause-codes : goal.returns-clause-codes
+returns-clause-codes g c =
+    fetched c.args.scan.now (g.S.Store.content c.args.calls.now.store.now) c.args.inputs.now c.args.candidates c.in_ok-places.field-0.held c.in_ok-rows.rows c.items.result.now _
+    c.in_ok-rows.ensures.codes c.in_ok-places.ensures.held (c.items.ensures ∙ c.in_ok-places.ensures.places) c.in_ok-behind_each.ensures

@@ -2,12 +2,15 @@ use Rattle.std.proofs.Common.{◌≤◌, List, length, get_or, [], subst, arith}
 use Rattle.std.proofs.lemmas.List.{take_all}
 use Rattle.std.proofs.lemmas.Result.{err_from_is_err_and}
 use Rattle.std.specs.Option.{option_copied}
+use Rattle.std.specs.Prelude.{IfSome}
 use Rattle.pq_base.specs.declared.value.Value.{Value}
 use Rattle.pq_store.specs.Content.{AreAnswers}
 use Rattle.pq_store.specs.Rounds.{ArePairsOf, IsPartAsked}
 use Rattle.pq_calls.specs.Calls.{seen_world}
 use Rattle.pq_scan.specs.Candidates.{AreCandidates}
-use Rattle.pq_scan.proofs.Asked.{fronts_there, found_stops, found_answered, found_adds, found_kept, combo_here, constants_here, pairs_here, each_here}
+use Rattle.pq_scan.specs.Scanned.{AreGathered}
+use Rattle.pq_scan.proofs.Asked.{fronts_there, found_stops, found_answered, found_adds, found_gathered, found_kept, combo_here, constants_here, pairs_here, each_here}
+use Rattle.pq_scan.proofs.Gathered.{gathered_more}
 use Rattle.pq_scan.proofs.Steps.{each_at, candidates_more}
 use Rattle.pq_scan.proofs.gather.gather.Goals as goal
 
@@ -70,6 +73,8 @@ loop-place-preserved g c =
     let constants = constants_here scan after inputs place within _ _ _ own c.in_ok-asks.ensures.constants c.items-in-loop-place.ensures c.index-items-place.is c.items-in-loop-place-2.ensures in
     record {
       kept = found_kept scan after combo c.args.limit pairs part told are own constants place old new c.in_ok-add_found.ensures.adds (length inputs) within c.loop-place.invariant.kept;
+      codes = gathered_more scan c.args.limit after told inputs place combo old new within (combo_here scan after inputs place within) c.loop-place.invariant.codes
+          (found_gathered scan after combo c.args.limit pairs part told are own constants place old new c.in_ok-add_found.ensures.adds);
       answer = candidates_more scan told c.args.limit after inputs place combo old new within (combo_here scan after inputs place within) c.loop-place.invariant.answer
           (found_adds scan after combo c.args.limit pairs part told are own constants place old new c.in_ok-add_found.ensures.adds c.requires.ready c.requires.cursor
           (each_at _ inputs place combo c.requires.inputs within (combo_here scan after inputs place within)));
@@ -80,3 +85,9 @@ returns-clause-answer g c =
     let all : length c.args.inputs.now ≤ c.loop-place.place = omega (arith, c.loop-place-test.false) in
     subst (λ (l : List (List (List Value))). AreCandidates c.args.scan.now (g.S.Store.content c.args.calls.now.store.now) c.args.limit (option_copied c.args.after) l c.loop-place.found)
     (take_all c.loop-place.place c.args.inputs.now all) c.loop-place.invariant.answer
+
+pub returns-clause-codes : goal.returns-clause-codes
+returns-clause-codes g c =
+    let all : length c.args.inputs.now ≤ c.loop-place.place = omega (arith, c.loop-place-test.false) in
+    subst (λ (l : List (List (List Value))). IfSome (g.S.Store.content c.args.calls.now.store.now) (AreGathered c.args.scan.now c.args.limit (option_copied c.args.after) 0 l c.loop-place.found))
+    (take_all c.loop-place.place c.args.inputs.now all) c.loop-place.invariant.codes

@@ -4,6 +4,7 @@ use Rattle.std.specs.Option.{option_copied}
 use Rattle.pq_store.specs.Content.{Content}
 use Rattle.pq_calls.proofs.Steps.{rest_left}
 use Rattle.pq_scan.specs.Candidates.{IsCandidate, AreCombosOf}
+use Rattle.pq_scan.proofs.Gathered.{scanned}
 use Rattle.pq_scan.proofs.Merged.{stop_scan_made}
 use Rattle.pq_scan.proofs.Running.{fetch_within, first_kept, first_length}
 use Rattle.pq_scan.proofs.Steps.{uses_then}
@@ -39,3 +40,8 @@ returns-clause-answer g c = λ rows others h.
     stop_scan_made scan c.requires.ready rows (option_copied c.args.after) c.requires.cursor c.args.k told others h inputs c.requires.inputs
     c.in_ok-found.found first (c.in_ok-found.ensures.answer rows others h) c.in_ok-first.ensures found
     (subst (λ (o : Option Content). AreCombosOf scan o inputs first found) c.gather.ensures.uses.reads.same c.in_ok-combos_of.ensures.answer)
+
+pub returns-clause-codes : goal.returns-clause-codes
+returns-clause-codes g c =
+    scanned c.args.scan.now (option_copied c.args.after) c.args.k (g.S.Store.content c.args.calls.now.store.now) (g.S.Store.content c.gather.new.calls.store.now) c.args.inputs.now c.in_ok-combos_of.field-0
+    c.in_ok-found.found c.in_ok-first.first c.gather.ensures.uses.reads.same c.in_ok-found.ensures.codes c.in_ok-first.ensures c.in_ok-combos_of.ensures.codes

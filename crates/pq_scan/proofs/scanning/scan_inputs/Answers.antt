@@ -1,6 +1,7 @@
 use Rattle.std.proofs.Common.{◌≡◌, true, length, sym, subst}
 use Rattle.std.specs.Prelude.{IfOk, IfErr}
 use Rattle.std.specs.Option.{option_copied}
+use Rattle.std.proofs.lemmas.Result.{IfOk-weaker}
 use Rattle.pq_schema.specs.Candidates.{can_stop_at}
 use Rattle.pq_schema.specs.Relations.{table_of, tied_set, order_rest}
 use Rattle.pq_schema.specs.Sequences.{IsAccess, sequence_of, serves}
@@ -12,6 +13,7 @@ use Rattle.pq_nodes.specs.Inverse.{IsRelationOf}
 use Rattle.pq_nodes.specs.Operators.{IsAsked, AreInputs, IsCursor, AffordsNode, AreFound, AnswersNode, ShowsRead}
 use Rattle.pq_nodes.specs.Paid.{node_cost}
 use Rattle.pq_scan.specs.Prepared.{Subject}
+use Rattle.pq_scan.proofs.Gathered.{first_scanned}
 use Rattle.pq_scan.proofs.scanning.scan_inputs.Goals as goal
 
 pub prepare-requires-clause-query : goal.prepare-requires-clause-query
@@ -52,3 +54,9 @@ returns-clause-found g c = subst (λ (s : Subject). IfOk c.run.result (AreFound 
 
 pub returns-clause-answer : goal.returns-clause-answer
 returns-clause-answer g c = subst (λ (s : Subject). IfOk c.run.result (AnswersNode (g.S.Store.content c.args.calls.now.store.now) s.tables s.query s.params (option_copied c.args.after) c.args.inputs.now (stop_scan s.rel c.args.k s.access))) c.in_ok-scan.ensures.subject c.run.ensures.answer
+
+pub returns-clause-codes : goal.returns-clause-codes
+returns-clause-codes g c =
+    IfOk-weaker c.run.result _ _ (λ found h.
+    first_scanned c.args.catalog.now.tables c.args.query.now c.args.params.now c.args.rel c.args.access c.in_ok-scan.scan c.in_ok-scan.ensures.sound c.in_ok-scan.ensures.subject (option_copied c.args.after) c.args.k
+    (g.S.Store.content c.args.calls.now.store.now) c.args.inputs.now found h) c.run.ensures.codes
