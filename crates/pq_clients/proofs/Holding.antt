@@ -33,6 +33,7 @@ use Rattle.pq_clients.proofs.Listed.{TellFacts, step_tells}
 use Rattle.pq_clients.proofs.Leads.{OfNext, own_test, reads_taken, takes_found, looks_going}
 use Rattle.pq_clients.proofs.Ofs.{OfView, run_of, fresh_of}
 use Rattle.pq_clients.proofs.DueEntries.{due_entries}
+use Rattle.pq_clients.proofs.OwnEntries.{own_entries}
 use Rattle.pq_clients.proofs.InOrder.{tests_in_order}
 
 -- ---- calls that fail
@@ -130,6 +131,7 @@ module _ (tables : List Table) (rows : Rows) (others : List Pair) (clients : Lis
     kept = present_kept tables rows others clients b events;
     shows = shows_writes tables rows others clients b events;
     due = due_entries tables rows others clients b events;
+    own = own_entries tables rows others clients b events;
     done = done_told tables rows others clients b events;
     order = told_in_order tables rows others clients b events;
     rests = rests_settled tables rows others clients b events;

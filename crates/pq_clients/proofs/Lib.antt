@@ -71,4 +71,5 @@ pub mod Worked
 pub mod OneCalls
 pub mod Apart
 pub mod DueEntries
+pub mod OwnEntries
 pub mod InOrder

@@ -10,7 +10,7 @@ use Rattle.pq_base.specs.declared.value.Value.{Value}
 use Rattle.pq_key_code.specs.KeyCode.{past_code}
 use Rattle.pq_schema.specs.declared.table.Table.{Table}
 use Rattle.pq_schema.specs.Tables.{table_at}
-use Rattle.pq_content.specs.Pairs.{Pair, AreBeside, is_of_rows, entries_from, content_pairs}
+use Rattle.pq_content.specs.Pairs.{Pair, AreBeside, is_in_space, is_of_rows, entries_from, content_pairs}
 use Rattle.pq_content.specs.Tables.{Rows, Keeps, AllOfKinds, IsTableNumber, AreApart, IsWithinLimit, types_of, key_types, row_at, stored_code}
 use Rattle.pq_store.specs.Content.{Content, pairs_within}
 use Rattle.pq_index_keep.specs.Bounds.{referring_count}
@@ -25,12 +25,12 @@ use Rattle.pq_clients.specs.declared.outcome.Step.{Step}
 use Rattle.pq_clients.specs.declared.outcome.Step.TheVariants as step
 use Rattle.pq_clients.specs.declared.outcome.Told.{Told}
 use Rattle.pq_clients.specs.declared.outcome.Wrote.{Wrote}
-use Rattle.pq_clients.specs.Held.{cell_of, is_held_value, present_code, present_row, decoded_row, held_value}
+use Rattle.pq_clients.specs.Held.{Held, cell_of, is_held_value, present_code, present_row, decoded_row, held_value}
 use Rattle.pq_clients.specs.Flights.{Flight, Parent, Child, table_number, key_written, table_of, pair_key, row_made, sets_of, conds_of, row_refusal, flight_table, flight_key, old_row, new_code, flight_checks, flight_tests, tested_front, tested_limit}
 use Rattle.pq_clients.specs.Clients.{Stage, Checking, Testing, Putting, Freeing, Undoing, Releasing, Next, Reading, Taking, Looking, Flying, View, present_of, may_show, is_freeing, flight_of, write_at, is_over, new_view}
 use Rattle.pq_clients.specs.Steps.{is_just, is_held_by_other, Fate, Answers, NotDone, DoneUnseen, NoMemory, is_fault, stepped}
 use Rattle.pq_clients.specs.Runs.{Event, Run, begun, turn, run}
-use Rattle.pq_clients.specs.Invariant.{has_code_entry, Names, is_due, is_there}
+use Rattle.pq_clients.specs.Invariant.{has_code_entry, Names, is_old, is_new, is_due, is_there}
 use Rattle.pq_clients.specs.Testing.{TestsInOrder}
 use Rattle.pq_clients.specs.Present.{present_at, present_rows, rows_after, rows_after_all, write_named, writes_named}
 
@@ -161,6 +161,32 @@ HasDueEntries tables r =
     → v.next ≡ Flying f stage → (e : List ℕ) → Names tables (flight_key tables f) e
     → is_there r.content e
     ≡ (has_code_entry tables (flight_key tables f) (present_of tables f stage) e || is_due tables f stage e)
+
+-- the write at hand of a client, ended or not, holds the key, and the entry is one of its old or of its new row
+pub record IsOfHolder (tables : List Table) (r : Run) (key e : List ℕ) : Type 0 where
+  pub place : ℕ
+  pub view : View
+  pub flight : Flight
+  pub value : List ℕ
+  pub present : Option (List ℕ)
+  pub writes : slice_get r.clients place ≡ Some view
+  pub flies : flight_of view.next ≡ Some flight
+  pub key_is : flight_key tables flight ≡ key
+  pub there : get r.content key ≡ Some value
+  pub held : cell_of value ≡ Held view.number view.at present
+  pub of_rows : (is_old tables flight e || is_new tables flight e) ≡ true
+
+-- the entry is of a row at the key, and has no value: of the row present there, or of the write that holds the key
+pub record IsOwnEntry (tables : List Table) (r : Run) (e value : List ℕ) : Type 0 where
+  pub key : List ℕ
+  pub names : Names tables key e
+  pub empty : value ≡ []
+  pub own : (has_code_entry tables key (present_code (get r.content key)) e ≡ true) ⊎ IsOfHolder tables r key e
+
+-- so is each entry that is there: at a key that nobody holds there are none but those of the row present
+abbrev pub HasOwnEntries : List Table → Run → Type 0
+HasOwnEntries tables r = (e value : List ℕ) → is_in_space 3 e ≡ true → get r.content e ≡ Some value
+    → IsOwnEntry tables r e value
 
 -- it is told exactly where the free is answered with true, of a write that was put
 abbrev pub Frees : List Table → View → Content → Fate → Type 0
@@ -450,6 +476,7 @@ pub record HoldsThroughout (tables : List Table) (rows : Rows) (others : List Pa
   pub kept : KeepsPresent tables (reached tables rows others clients events).content
   pub shows : ShowsWrites tables rows clients (reached tables rows others clients events)
   pub due : HasDueEntries tables (reached tables rows others clients events)
+  pub own : HasOwnEntries tables (reached tables rows others clients events)
   pub done : TellsDone tables (reached tables rows others clients events)
   pub order : TellsInOrder (reached tables rows others clients events)
   pub rests : IsSettledAgain tables others (reached tables rows others clients events)
