@@ -71,6 +71,11 @@ def underlined(statement: str, place: Place) -> str:
     return f"  {line}\n  {indent}^"
 
 
+def plain(text: str) -> str:
+    """A text without the marks of the document that it is from."""
+    return text.replace("`", "")
+
+
 def marked(refusal: Refusal) -> Place | None:
     """Where a statement spells nothing, or where the write of a batch begins that is refused."""
     if refusal.place is not None or refusal.number_in_batch is None:
@@ -85,7 +90,7 @@ def told(error: Error) -> str:
     if refusal is None:
         return str(error)
     head = " ".join([*batch_head(refusal), refusal.number, *refusal.fields.values()])
-    lines = [f"{head}: {refusal.headline} {refusal.detail}".rstrip()]
+    lines = [plain(f"{head}: {refusal.headline} {refusal.detail}").rstrip()]
     place = marked(refusal)
     if place is not None:
         lines.append(underlined(refusal.statement, place))

@@ -155,14 +155,6 @@ class MarkTest(unittest.TestCase):
         self.assertFalse(victim.exists())
 
 
-def text_of(path: Path) -> str:
-    """What a file has; nothing where it isn't there, as a mark behind the end of a load."""
-    try:
-        return path.read_text()
-    except FileNotFoundError:
-        return ""
-
-
 @needs_file
 class LoadTest(unittest.TestCase):
     """Each test has a file of its own."""
