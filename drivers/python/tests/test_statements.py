@@ -119,10 +119,9 @@ class StatementTest(unittest.TestCase):
 
     def test_ways_out_by_the_statement(self) -> None:
         unbounded = refusal_of(("E304", "t"), "PREPARE q AS SELECT a FROM t WHERE a <> 1 LIMIT 9").way_out
-        self.assertIn("`<>`: ", unbounded)
-        self.assertNotIn("JOIN", unbounded)
-        self.assertNotIn("no `LIMIT`", unbounded)
-        self.assertIn("no `LIMIT`", refusal_of(("E304", "t"), "PREPARE q AS SELECT a FROM t").way_out)
+        self.assertEqual(unbounded, "a BOOL column and an equality")
+        without_stop = refusal_of(("E304", "t"), "PREPARE q AS SELECT a FROM t").way_out
+        self.assertTrue(without_stop.startswith("LIMIT or PAGINATE; "), without_stop)
         self.assertIn("each column", refusal_of(("E502", "t"), "INSERT INTO t (a) VALUES (1)").way_out)
         self.assertIn("whole key", refusal_of(("E502", "t"), "delete from t where b = 1").way_out)
         for text, at in (("DELETE FROM t WHERE a < 1;", 22), ("DELETE FROM t;", 13), ("UPDATE t SET a = 1;", 18)):
