@@ -18,12 +18,9 @@ And batches have changes of just 1,048,576 bytes, and of one more. The last line
 where nothing is wrong.
 """
 
-import argparse
-import os
 import pathlib
 import random
 import sys
-import time
 from collections import Counter as Tally
 from typing import NamedTuple
 
@@ -34,6 +31,7 @@ sys.path[:0] = [str(TOP / "drivers/python"), str(TOP / "trials"), str(TOP / "tri
 import lengths  # noqa: E402 - the modules stand beside, or in trials/
 from drawn import TABLES, drawn_statement  # noqa: E402
 from effects import Rows, no_rows  # noqa: E402
+from hosted import run_trial, words_of  # noqa: E402
 from layouts import Tables  # noqa: E402
 from pairs import Pairs, pairs_of  # noqa: E402
 from piql.hosts import MemoryStore  # noqa: E402
@@ -41,7 +39,6 @@ from piql.reports import OpeningLine, Report, read_reports  # noqa: E402
 from statements import Statement, Wanted, wanted  # noqa: E402
 from stopping import Ran, Stop, copy_of, ran  # noqa: E402
 
-BUILD = TOP / "crates/piql_host/out/piql_host"
 DEFINITIONS, STORE_FAULT = 1, 5
 # How many letters of a statement are told.
 SHOWN = 2000
@@ -160,29 +157,17 @@ def try_lengths(engine: str) -> str:
     return f"{len(refused)} batches of changes to the last byte, {sum(refused)} refused"
 
 
-def read_words() -> argparse.Namespace:
-    as_written = argparse.RawTextHelpFormatter
-    parser = argparse.ArgumentParser(prog="trials/batches", description=__doc__, formatter_class=as_written)
-    parser.add_argument("--times", type=int, default=1000, help="how many statements are made")
-    parser.add_argument("--stops", type=int, default=30, help="how many of them are stopped at each call")
-    parser.add_argument("--seed", type=int, default=1, help="what they are drawn by")
-    parser.add_argument("--engine", default=os.environ.get("PIQL_HOST", str(BUILD)), help="the program piql_host")
-    return parser.parse_args()
-
-
 def main() -> int:
-    given, begun = read_words(), time.monotonic()
-    if not os.access(given.engine, os.X_OK):
-        print(f"batches: there is no program {given.engine}: bin/prove piql_host makes it", file=sys.stderr)
-        return 2
-    try:
+    words = words_of("batches", __doc__, "how many statements are made")
+    words.add_argument("--stops", type=int, default=30, help="how many of them are stopped at each call")
+    given = words.parse_args()
+
+    def trial() -> str:
         print(try_lengths(given.engine), flush=True)
         told = try_drawn(given.engine, given.times, given.stops, given.seed)
-    except Wrong as wrong:
-        print(f"WRONG {wrong}")
-        return 1
-    print(f"{given.times} statements, seed {given.seed}: {told}; none wrong; {time.monotonic() - begun:.0f} s")
-    return 0
+        return f"{given.times} statements, seed {given.seed}: {told}; none wrong"
+
+    return run_trial("batches", given.engine, trial, Wrong)
 
 
 if __name__ == "__main__":

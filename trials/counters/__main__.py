@@ -14,12 +14,9 @@ the statement if that one wasn't made, and else those behind it. READ of each gr
 counters have to be just those of these rows. The last line has the figures; the exit status is 0 where nothing is wrong.
 """
 
-import argparse
-import os
 import pathlib
 import random
 import sys
-import time
 from collections import Counter as Tally
 from typing import NamedTuple
 
@@ -27,7 +24,8 @@ sys.dont_write_bytecode = True
 TOP = pathlib.Path(__file__).resolve().parents[2]
 sys.path[:0] = [str(TOP / "drivers/python"), str(TOP / "trials"), str(TOP / "trials/counters")]
 
-from pairs import counted_pairs, told_pairs  # noqa: E402 - the modules stand beside, or in trials/
+from hosted import run_trial, words_of  # noqa: E402 - the modules stand beside, or in trials/
+from pairs import counted_pairs, told_pairs  # noqa: E402
 from piql.hosts import MemoryStore  # noqa: E402
 from piql.reports import OpeningLine, Report, read_reports  # noqa: E402
 from piql.values import quoted  # noqa: E402
@@ -35,7 +33,6 @@ from stopping import Ran, Stop, copy_of, ran  # noqa: E402
 from tables import COLUMNS, DEFINITIONS, KEYS, LIKES, PEOPLE, Batch, Rows, Statement  # noqa: E402
 from tables import drawn_statement, groups, made_by, no_rows, number_of, refused_as  # noqa: E402
 
-BUILD = TOP / "crates/piql_host/out/piql_host"
 STORE_FAULT = 5
 GROUPS = list(groups())
 READS = "".join(f"READ {group.counter} ({', '.join(map(quoted, group.values))});\n" for group in GROUPS)
@@ -128,31 +125,17 @@ class Trial:
         return f"{', '.join(parts)}; at the end {' and '.join(sizes)}"
 
 
-def read_words() -> argparse.Namespace:
-    as_written = argparse.RawTextHelpFormatter
-    parser = argparse.ArgumentParser(prog="trials/counters", description=__doc__, formatter_class=as_written)
-    parser.add_argument("--times", type=int, default=1000, help="how many writes are stopped")
-    parser.add_argument("--seed", type=int, default=1, help="what they are drawn by")
-    parser.add_argument("--engine", default=os.environ.get("PIQL_HOST", str(BUILD)), help="the program piql_host")
-    return parser.parse_args()
-
-
 def main() -> int:
-    given, begun = read_words(), time.monotonic()
-    if not os.access(given.engine, os.X_OK):
-        print(f"counters: there is no program {given.engine}: bin/prove piql_host makes it", file=sys.stderr)
-        return 2
-    try:
+    given = words_of("counters", __doc__, "how many writes are stopped").parse_args()
+
+    def told() -> str:
         trial = Trial(given.engine, given.seed)
         for _ in range(given.times):
             trial.step()
-    except Wrong as wrong:
-        print(f"WRONG {wrong}")
-        return 1
-    seconds = time.monotonic() - begun
-    reads = given.times * len(GROUPS)
-    print(f"{given.times} writes, seed {given.seed}: {trial.tell()}; {reads:,} READs, none wrong; {seconds:.0f} s")
-    return 0
+        reads = given.times * len(GROUPS)
+        return f"{given.times} writes, seed {given.seed}: {trial.tell()}; {reads:,} READs, none wrong"
+
+    return run_trial("counters", given.engine, told, Wrong)
 
 
 if __name__ == "__main__":

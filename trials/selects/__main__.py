@@ -18,12 +18,9 @@ taken, an index over too many rows; and one whose table has as many indexes as i
 the exit status is 0 where nothing differs.
 """
 
-import argparse
-import os
 import pathlib
 import random
 import sys
-import time
 from collections import Counter as Tally
 
 sys.dont_write_bytecode = True
@@ -32,13 +29,12 @@ FOLDERS = ("drivers/python", "trials", "trials/nulls", "trials/selects")
 sys.path[:0] = [str(TOP / folder) for folder in FOLDERS]
 
 from asked import Queries, Selected  # noqa: E402 - the modules stand beside, or in trials/
+from hosted import run_trial, words_of  # noqa: E402
 from piql.hosts import MemoryStore  # noqa: E402
 from piql.reports import OpeningLine, Report, read_reports  # noqa: E402
 from pairing import Pair, difference  # noqa: E402
 from special import SPECIAL, Special  # noqa: E402
 from stopping import Ran, copy_of, ran  # noqa: E402
-
-BUILD = TOP / "crates/piql_host/out/piql_host"
 
 
 class Differs(Exception):
@@ -126,30 +122,17 @@ def try_drawn(engine: str, times: int, seed: int) -> Tally[str]:
     return Tally(check(engine, stores[query.place], query) for query in queries.all(times))
 
 
-def read_words() -> argparse.Namespace:
-    as_written = argparse.RawTextHelpFormatter
-    parser = argparse.ArgumentParser(prog="trials/selects", description=__doc__, formatter_class=as_written)
-    parser.add_argument("--times", type=int, default=1000, help="how many queries are asked")
-    parser.add_argument("--seed", type=int, default=1, help="what they are drawn by")
-    parser.add_argument("--engine", default=os.environ.get("PIQL_HOST", str(BUILD)), help="the program piql_host")
-    return parser.parse_args()
-
-
 def main() -> int:
-    given, begun = read_words(), time.monotonic()
-    if not os.access(given.engine, os.X_OK):
-        print(f"selects: there is no program {given.engine}: bin/prove piql_host makes it", file=sys.stderr)
-        return 2
-    try:
+    given = words_of("selects", __doc__, "how many queries are asked").parse_args()
+
+    def trial() -> str:
         for special in SPECIAL:
             check_special(given.engine, special)
         figures = try_drawn(given.engine, given.times, given.seed)
-    except Differs as differs:
-        print(f"DIFFERS {differs}")
-        return 1
-    parts = ", ".join(f"{count} {what}" for what, count in sorted(figures.items()))
-    print(f"{given.times} queries, seed {given.seed}: {parts}; none differs; {time.monotonic() - begun:.0f} s")
-    return 0
+        parts = ", ".join(f"{count} {what}" for what, count in sorted(figures.items()))
+        return f"{given.times} queries, seed {given.seed}: {parts}; none differs"
+
+    return run_trial("selects", given.engine, trial, Differs)
 
 
 if __name__ == "__main__":
