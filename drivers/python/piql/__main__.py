@@ -23,7 +23,7 @@ import sys
 from . import connect, shell, status
 from .bounds import BoundsRose, check_bounds, write_bounds
 from .counting import counted
-from .errors import Error, ProgrammingError
+from .errors import Error, OtherRecords, ProgrammingError
 from .hosts.fence_command import fence
 from .hosts.script import run_url
 from .load import load
@@ -97,10 +97,12 @@ def run_load(given: argparse.Namespace) -> int:
         mark = given.mark or mark_path(given.file, given.table)
         try:
             loaded = load(connection, given.table, source, mark, sys.stderr, given.null)
-        except (Error, KeyboardInterrupt) as error:
+        except OtherRecords:
+            raise
+        except (Error, KeyboardInterrupt):
             if os.path.exists(mark):
                 print("stopped; the same command goes on from there", file=sys.stderr)
-            raise error
+            raise
     return 1 if loaded.refused else 0
 
 

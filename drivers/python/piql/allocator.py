@@ -1,8 +1,8 @@
 """The environment of an engine's process: glibc's malloc keeps more pieces at hand than it does by itself.
 
 A page frees many pieces of one size together. glibc's list of free pieces for a thread has room for seven of a size, and
-what doesn't fit there takes the long way. With room for 127 a follower's feed takes a seventh fewer instructions
-(docs/FIGURES.md). Another C library, or another allocator that is preloaded, doesn't read the word.
+what doesn't fit there takes the long way. With room for 127 a follower's feed takes a sixth fewer instructions
+(docs/PRODUCTION.md). Another C library, or another allocator that is preloaded, doesn't read the word.
 """
 
 import os

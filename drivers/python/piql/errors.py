@@ -119,6 +119,10 @@ class BatchFull(ProgrammingError):
     """A batch has no room for a write more. Nothing of it was sent."""
 
 
+class OtherRecords(ProgrammingError):
+    """A load can't go on: of the records that its mark counts the text has others, or fewer. Nothing was made."""
+
+
 class NotSupportedError(DatabaseError):
     """What isn't offered: rollback, and a query without a bound."""
 

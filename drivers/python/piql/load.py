@@ -17,7 +17,7 @@ from .batch import batch_of_rows
 from .cells import RowReader, Unreadable
 from .connection import Connection
 from .counting import counted
-from .errors import DatabaseError, DataError, OperationalError, ProgrammingError
+from .errors import DatabaseError, DataError, OperationalError, OtherRecords, ProgrammingError
 from .marks import Mark
 from .plain import plain_path
 from .schema import Table
@@ -167,12 +167,20 @@ class Load:
         self.greatest = 1
         return 1
 
+    def too_few(self, there: int) -> OtherRecords:
+        """The refusal of a text with so many records, fewer than were taken or sent of the one before."""
+        counts = counted(self.mark.records + self.sent, "record")
+        way = "give all of them again, or take the mark of another file away first"
+        return OtherRecords(f"{self.mark.path} counts {counts}, and the text has {there}; {way}")
+
     def settle(self, records: Sequence[Record], found: Sequence[Row]) -> None:
         """Makes the rows that were found in some records, and tells of those that are refused."""
         while records:
             rows = [row for row in found if isinstance(row, str)]
+            if len(rows) < self.sent:
+                raise self.too_few(self.mark.records + len(rows))
             sent, self.sent = self.sent, 0
-            whys = self.again(rows[:sent]) if sent and rows else self.together(rows) if rows else []
+            whys = self.again(rows[:sent]) if sent else self.together(rows) if rows else []
             if whys or not rows:
                 count = covered(found, len(whys))
                 self.take(records[:count], outcomes(found[:count], whys))
@@ -198,8 +206,10 @@ class Load:
         count = total = 0
         for lot in lots_of(islice(records, self.mark.records)):
             count, total = count + len(lot), sum_of(lot, total)
-        if count == self.mark.records and total != self.mark.sum:
-            raise ProgrammingError(f"{self.mark.path} was left by the load of another file; take it away first")
+        if count < self.mark.records:
+            raise self.too_few(count)
+        if total != self.mark.sum:
+            raise OtherRecords(f"{self.mark.path} was left by the load of another file; take it away first")
 
     def run(self, reader: RowReader, records: Iterator[Record]) -> None:
         """Takes the records behind the mark."""
@@ -207,6 +217,8 @@ class Load:
         self.pass_over(records)
         for lot in lots_of(records):
             self.settle(lot, rows_of(reader, lot))
+        if self.sent:
+            raise self.too_few(self.mark.records)
         self.progress(is_last=True)
 
 

@@ -5,8 +5,10 @@ import os
 import subprocess
 import sys
 import unittest
+from collections.abc import Iterable
 
 from helpers import TOP, needs_file, new_folder, piql
+from piql.writes import WRITES
 from served import Served
 
 IS_THERE = importlib.util.find_spec("sqlalchemy") is not None
@@ -14,16 +16,22 @@ if IS_THERE:
     import sqlalchemy as sa
     from alchemy_cases import ONE, POSTS, REFUSED, SCHEMA, SENT, USERS, K, N, P, T, U
     from piql.alchemy import Dialect, NotOffered
+    from piql.alchemy.dialect import raw
     from sqlalchemy import and_, select, text
 
 # What the script of the document prints.
 SHOWN = """[('ann', 'rome')]
-a transaction writes once
+E504 2
 ['rome']
-['oslo']
+['pisa']
 the language has no OR: run the query once for each value, and join the answers
 """
 needs_sqlalchemy = unittest.skipUnless(IS_THERE, "SQLAlchemy isn't there (Debian: python3-sqlalchemy)")
+
+
+def posts(numbers: Iterable[int]) -> list[dict[str, object]]:
+    """Rows of values, one for each of these numbers."""
+    return [{"owner": "ann", "number": number, "line": "x"} for number in numbers]
 
 
 @needs_sqlalchemy
@@ -82,6 +90,11 @@ class StoreTest(unittest.TestCase):
         with self.engine.connect() as connection:
             return connection.execute(select(USERS.c.town).where(USERS.c.name == name)).scalar()
 
+    def count(self) -> object:
+        """How many posts are stored."""
+        with self.engine.connect() as connection:
+            return connection.execute(text("READ posts_of ('ann')")).scalar()
+
     def test_answers(self) -> None:
         with self.engine.connect() as connection:
             rows = connection.execute(select(USERS.c.name, USERS.c.active.label("a")).limit(5)).mappings().all()
@@ -109,25 +122,55 @@ class StoreTest(unittest.TestCase):
             1 / 0
         self.assertEqual(self.town(), "oslo")
 
-    def test_a_second_write_is_refused_and_the_first_one_not_made(self) -> None:
-        for second in (USERS.delete().where(USERS.c.name == "bob"), text("DELETE FROM users WHERE name = 'bob'")):
-            with self.assertRaisesRegex(sa.exc.NotSupportedError, "a transaction writes once: nothing of it was made"):
-                with self.engine.begin() as connection:
-                    connection.execute(USERS.update().where(ONE).values(town="oslo"))
-                    connection.execute(second)
-            self.assertEqual(self.town(), "rome")
-        rows = [{"owner": "ann", "number": it, "line": "x"} for it in range(2)]
-        with self.assertRaises(sa.exc.NotSupportedError), self.engine.begin() as connection:
-            connection.execute(POSTS.insert(), rows)
-        with self.assertRaisesRegex(sa.exc.NotSupportedError, "a read behind it wouldn't see it"):
-            with self.engine.begin() as connection:
+    def test_the_writes_of_a_transaction_are_made_as_one(self) -> None:
+        with self.engine.begin() as connection:
+            connection.execute(POSTS.insert(), posts(range(3)))
+            connection.execute(USERS.update().where(ONE).values(town="oslo"))
+            connection.execute(text("DELETE FROM users WHERE name = 'bob'"))
+            self.assertEqual(raw(connection.connection).execute("READ posts_of ('ann')").fetchall(), [(0,)])
+        self.assertEqual((self.town(), self.town("bob"), self.count()), ("oslo", None, 3))
+        with self.engine.connect() as connection:
+            connection.execute(POSTS.insert(), posts(range(3, 9)))
+            connection.rollback()
+        self.assertEqual(self.count(), 3)
+
+    def test_of_writes_of_which_one_is_refused_none_is_made(self) -> None:
+        nobody = USERS.update().where(USERS.c.name == "nobody").values(town="oslo")
+        twice = POSTS.insert().values(owner="ann", number=0, line="x")
+        for last, number in ((nobody, "E504"), (twice, "E503")):
+            with self.assertRaises(sa.exc.IntegrityError) as caught, self.engine.begin() as connection:
+                connection.execute(twice)
                 connection.execute(USERS.update().where(ONE).values(town="oslo"))
+                connection.execute(last)
+            found = caught.exception.orig
+            assert isinstance(found, piql.Error)
+            self.assertEqual((found.number, found.place), (number, 3))
+        many = posts(range(WRITES + 1))
+        with self.assertRaisesRegex(sa.exc.ProgrammingError, "at most 256 writes"), self.engine.begin() as connection:
+            connection.execute(POSTS.insert(), many)
+        self.assertEqual((self.town(), self.count()), ("rome", 0))
+        with self.engine.begin() as connection:
+            connection.execute(POSTS.insert(), many[:-1])
+        self.assertEqual(self.count(), WRITES)
+
+    def test_what_no_transaction_has(self) -> None:
+        move, table = USERS.update().where(ONE).values(town="oslo"), text("CREATE TABLE more (id INT, PRIMARY KEY (id))")
+        for first, second in ((move, table), (table, move), (table, table)):
+            with self.assertRaisesRegex(sa.exc.NotSupportedError, "one other statement"):
+                with self.engine.begin() as connection:
+                    connection.execute(first)
+                    connection.execute(second)
+        with self.assertRaisesRegex(sa.exc.NotSupportedError, "a read behind one wouldn't see it"):
+            with self.engine.begin() as connection:
+                connection.execute(move)
                 connection.execute(select(USERS.c.town).where(ONE))
         with self.assertRaisesRegex(piql.NotSupportedError, "no savepoints"), self.engine.begin() as connection:
             connection.begin_nested()
         self.assertEqual(self.town(), "rome")
+        with self.engine.begin() as connection:
+            connection.execute(table)
         with self.engine.connect() as connection:
-            self.assertEqual(connection.execute(text("READ posts_of ('ann')")).scalar(), 0)
+            self.assertTrue(sa.inspect(connection).has_table("more"))
 
     def test_a_write_that_is_refused_at_its_commit(self) -> None:
         with self.assertRaisesRegex(sa.exc.IntegrityError, "E503"), self.engine.begin() as connection:
@@ -137,14 +180,13 @@ class StoreTest(unittest.TestCase):
         self.assertEqual(self.town(), "rome")
 
     def test_autocommit(self) -> None:
-        rows = [{"owner": "ann", "number": it, "line": "x"} for it in range(3)]
         with self.engine.connect().execution_options(isolation_level="AUTOCOMMIT") as connection:
-            connection.execute(POSTS.insert(), rows)
+            connection.execute(POSTS.insert(), posts(range(3)))
             self.assertEqual(connection.execute(USERS.update().where(ONE).values(town="oslo")).rowcount, 1)
             missing = USERS.update().where(USERS.c.name == "nobody").values(town="oslo")
             self.assertEqual(connection.execute(missing).rowcount, 0)
-            self.assertEqual(connection.execute(text("READ posts_of ('ann')")).scalar(), 3)
             connection.rollback()
+        self.assertEqual(self.count(), 3)
         self.assertEqual(self.town(), "oslo")
         # The next one has the level of before.
         with self.engine.connect() as connection:

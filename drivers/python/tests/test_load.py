@@ -222,6 +222,32 @@ class LoadTest(unittest.TestCase):
         self.assertEqual(load(connection, "users", io.StringIO(text), mark, tell), Loaded(40, 0))
         self.assertEqual(len(connection.execute("SELECT name FROM users ORDER BY name LIMIT 100").fetchall()), 40)
 
+    def test_a_text_shorter_than_its_mark_is_refused(self) -> None:
+        """By the records that were taken, or by the rows that were sent behind them. Nothing is lost by it."""
+        connection, tell, mark = self.migrated(FIRST)
+        lines = ["name,town", *(f"n{i},x" for i in range(9))]
+        with self.assertRaises(piql.OperationalError):
+            load(connection, "users", io.StringIO("\n".join([*lines[:8], '"'])), mark, tell)
+        for sent, there in (("000", 0), ("000", 6), ("001", 7), ("002", 8)):
+            mark.write_text(re.sub(" \\d+\n$", f" {sent}\n", mark.read_text()))
+            kept = mark.read_text()
+            told = f"counts {7 + int(sent)} records, and the text has {there}; "
+            with self.subTest(told), self.assertRaisesRegex(piql.OtherRecords, told):
+                load(connection, "users", io.StringIO("\n".join(lines[: there + 1])), mark, tell)
+            self.assertEqual(mark.read_text(), kept)
+        self.assertEqual(load(connection, "users", io.StringIO("\n".join(lines)), mark, tell), Loaded(9, 0))
+        self.assertEqual(len(connection.execute("SELECT name FROM users ORDER BY name LIMIT 100").fetchall()), 9)
+
+    def test_the_command_does_not_go_on_over_a_shorter_text(self) -> None:
+        self.open(FIRST).close()
+        mark = Path(f"{self.path}.users.load")
+        mark.write_text(f"{7:020} {0:020} {0:010} 000\n")
+        done = self.loaded(b"name\nann\n")
+        told = done.stderr.decode().splitlines()
+        self.assertEqual((done.returncode, len(told)), (2, 1))
+        self.assertIn("counts 7 records, and the text has 1;", told[0])
+        self.assertTrue(mark.exists())
+
     def test_rows_that_were_sent_before_a_stop(self) -> None:
         """They are all there, and so made; or one isn't, and so none was made by that load."""
         text = "name,town\n" + "".join(f"n{i},x\n" for i in range(9))

@@ -131,7 +131,7 @@ class Dialect(default.DefaultDialect):
 
     def do_savepoint(self, connection: Any, name: str) -> None:
         """Refused."""
-        raise piql.NotSupportedError("there are no savepoints: a transaction writes once, by its commit")
+        raise piql.NotSupportedError("there are no savepoints: a transaction's writes are made by its commit")
 
     def do_ping(self, dbapi_connection: Any) -> bool:
         """Whether the store answers."""
@@ -143,7 +143,7 @@ class Dialect(default.DefaultDialect):
         return isinstance(e, (piql.StoreGone, piql.InterfaceError))
 
     def get_isolation_level_values(self, dbapi_connection: Any) -> list[str]:
-        """One that holds a write until its commit, and one that doesn't."""
+        """One that holds writes until their commit, and one that doesn't."""
         return [LEVEL, AT_ONCE]
 
     def get_default_isolation_level(self, dbapi_conn: Any) -> str:
