@@ -1,11 +1,12 @@
 """Queries over users, their subscriptions and their thoughts, answered by a plain product and a filter."""
 
 import itertools
-import operator
 import random
 import re
 from collections.abc import Iterator
 from dataclasses import dataclass, replace
+
+from comparing import COMPARISONS
 
 Value = bool | int | str
 Row = dict[str, Value]
@@ -13,14 +14,6 @@ Row = dict[str, Value]
 Rows = dict[str, list[Row]]
 Combination = dict[str, Row]
 
-COMPARISONS = {
-    "=": operator.eq,
-    "<>": operator.ne,
-    "<": operator.lt,
-    "<=": operator.le,
-    ">": operator.gt,
-    ">=": operator.ge,
-}
 KEYS = {"users": ["name"], "subs": ["owner", "target"], "thoughts": ["owner", "ts"]}
 DEFINITIONS = """\
 CREATE TABLE users (name TEXT(16), city TEXT(16), PRIMARY KEY (name));

@@ -27,6 +27,16 @@ def copy_sources(top: pathlib.Path, room: pathlib.Path) -> None:
             shutil.copy2(top / name, room / name, follow_symlinks=False)
 
 
+def revision_of(top: pathlib.Path) -> str:
+    """The commit that a checkout is of, and whether what is tried or proved there is another than the commit's."""
+
+    def said(*words: str) -> str:
+        return subprocess.run(["git", *words], cwd=top, capture_output=True, text=True, check=True).stdout.strip()
+
+    changed = said("status", "--porcelain", "--", "crates", "crates.txt", "mutants/*/*.edit")
+    return said("rev-parse", "--short=8", "HEAD") + (" with changes" if changed else "")
+
+
 def gather(copy: Repository, crate: str, only: list[str]) -> int:
     """Puts edits of a crate, all or those of these names, where the toolchain looks for them, and counts them."""
     edits = copy.edits(crate)
@@ -66,10 +76,10 @@ def try_crate(crate: str, toolchain: str, only: list[str]) -> results.Result:
         room = pathlib.Path(name)
         copy_sources(TOP, room)
         copy = Repository(room)
-        sources, tried = copy.source_sum(crate), gather(copy, crate, only)
+        revision, sources, tried = revision_of(TOP), copy.source_sum(crate), gather(copy, crate, only)
         refused = refused_of(crate, room)
     when = datetime.datetime.now(datetime.UTC).strftime("%Y-%m-%dT%H:%MZ")
-    return results.Result(crate, refused, tried, sources, when, toolchain)
+    return results.Result(crate, refused, tried, revision, sources, when, toolchain)
 
 
 def try_all(repository: Repository, crates: list[str], only: list[str]) -> int:

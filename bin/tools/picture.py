@@ -4,7 +4,7 @@ from collections.abc import Iterator
 from typing import NamedTuple
 from xml.sax.saxutils import escape
 
-from tools.plans import Node
+from tools.plans import Node, Told
 
 MARGIN, WIDTH, HEIGHT, GAP = 20, 216, 92, 26
 IN_A_ROW = 5
@@ -51,6 +51,11 @@ def counted(count: int, one: str, more: str) -> str:
 
 def work_text(operations: int, entries: int) -> str:
     return f"{counted(operations, 'operation', 'operations')}, {counted(entries, 'entry', 'entries')}"
+
+
+def plan_text(told: Told) -> str:
+    """What a plan needs: the sum of its nodes, and its rounds."""
+    return f"{work_text(*told.cost)}, {counted(told.rounds, 'round', 'rounds')}"
 
 
 def place_of(number: int, top: int) -> tuple[int, int]:

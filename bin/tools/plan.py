@@ -8,7 +8,7 @@ from piql.refusals import refusal_of
 from piql.scripts import place_at, tokens
 from tools.kept import NotBuilt
 from tools.launch import tell, written, written_of
-from tools.picture import Band, page, work_text
+from tools.picture import Band, page, plan_text
 from tools.plans import Told, read_plans
 from tools.statuses import NO_PROGRAM, REFUSED
 from tools.tell import Script, read_script
@@ -37,7 +37,7 @@ def planned_band(told: Told, head: str, statement: str) -> Band:
         raise Wrong(f"the nodes of {name} sum to {told.cost}, and its bound is {bound}", NO_PROGRAM)
     wanted = told.report.indexes()
     indexes = "".join(f"; wants index {it.number} of {it.table} ({', '.join(it.columns)})" for it in wanted)
-    return Band(f"{head}: {name}", statement, told.nodes, f"bound: {work_text(*told.cost)}{indexes}", False)
+    return Band(f"{head}: {name}", statement, told.nodes, f"bound: {plan_text(told)}{indexes}", False)
 
 
 def band_of(told: Told, script: Script) -> Band | None:

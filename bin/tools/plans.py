@@ -13,6 +13,7 @@ NODE = re.compile(
     r"(?: (?P<word>limit|first))?(?: (?P<count>\d+))?"
     r" bound (?P<operations>\d+) (?P<entries>\d+) size (?P<size>\d+)"
 )
+ROUNDS = re.compile(r"rounds (\d+)")
 
 
 class Node(NamedTuple):
@@ -27,10 +28,12 @@ class Node(NamedTuple):
 
 
 class Told(NamedTuple):
-    """What is told of a statement: its report, and the nodes of the plan that it asks for, from the innermost on."""
+    """What is told of a statement: its report, and the plan that it asks for: the nodes, from the innermost on, and the
+    rounds."""
 
     report: Report
     nodes: list[Node]
+    rounds: int
 
     @property
     def cost(self) -> Work:
@@ -49,16 +52,27 @@ def read_node(line: str) -> Node:
     return Node(found["kind"], relation, found["sequence"] or "", most, cost, int(found["size"]))
 
 
+def read_rounds(line: str) -> int | None:
+    """The rounds of a plan, where the line tells them."""
+    found = ROUNDS.fullmatch(line)
+    return int(found[1]) if found else None
+
+
 def read_plans(text: str) -> Iterator[Told]:
     """What piql_plan told of each statement, in order."""
     nodes: list[Node] = []
     lines: list[str] = []
+    rounds = 0
     for line in cut_lines(text):
         if line.startswith("node "):
             nodes.append(read_node(line))
             continue
+        told = read_rounds(line)
+        if told is not None:
+            rounds = told
+            continue
         lines.append(line)
         for report in read_reports("\n".join(lines)):
             assert isinstance(report, Report)
-            yield Told(report, nodes)
-            nodes, lines = [], []
+            yield Told(report, nodes, rounds)
+            nodes, lines, rounds = [], [], 0

@@ -1,4 +1,4 @@
-"""What is known of the wrong bodies of each crate: the file mutants/RESULTS."""
+"""What is known of the wrong bodies of each crate, and of which revision: the file mutants/RESULTS."""
 
 import dataclasses
 import os
@@ -8,8 +8,11 @@ from typing import Self
 
 from tools.repository import Repository
 
-HEAD = "# Of each crate: wrong bodies that were refused, a sum of its sources and of those below, when, the toolchain\n"
-LINE = re.compile(r"(\w+): (\d+) of (\d+) refused, sources ([0-9a-f]+), (\S+), (.+)")
+HEAD = """\
+# Of each crate: wrong bodies that were refused, at which revision, a sum of its sources and of those below, when, by
+# which toolchain. A line holds of its revision; bin/mutants --stale lists the crates that have changed since.
+"""
+LINE = re.compile(r"(\w+): (\d+) of (\d+) refused at (\w+(?: with changes)?), sources ([0-9a-f]+), (\S+), (.+)")
 
 
 @dataclasses.dataclass(frozen=True)
@@ -19,12 +22,14 @@ class Result:
     crate: str
     refused: int
     tried: int
+    # The commit that was checked out. What was changed in it and not committed is told.
+    revision: str
     sources: str
     when: str
     toolchain: str
 
     def line(self) -> str:
-        count = f"{self.refused} of {self.tried} refused"
+        count = f"{self.refused} of {self.tried} refused at {self.revision}"
         return f"{self.crate}: {count}, sources {self.sources}, {self.when}, {self.toolchain}"
 
     @classmethod
@@ -32,8 +37,8 @@ class Result:
         found = LINE.fullmatch(line)
         if found is None:
             return None
-        crate, refused, tried, sources, when, toolchain = found.groups()
-        return cls(crate, int(refused), int(tried), sources, when, toolchain)
+        crate, refused, tried, *rest = found.groups()
+        return cls(crate, int(refused), int(tried), *rest)
 
 
 def read(path: pathlib.Path) -> dict[str, Result]:
@@ -60,7 +65,7 @@ def stale(repository: Repository, results: dict[str, Result]) -> list[str]:
         if result is None:
             lines.append(f"{crate}: not tried yet")
         elif result.sources != repository.source_sum(crate):
-            lines.append(f"{crate}: changed since {result.when}")
+            lines.append(f"{crate}: changed since {result.revision}, {result.when}")
         elif result.refused < result.tried:
             lines.append(f"{crate}: {result.refused} of {result.tried} refused")
     return lines

@@ -5,10 +5,11 @@ import random
 from piql.layout import TableLayout
 from piql.reports import Row, Value
 
-from effects import GREATEST, LEAST, Rows, made, refused
+from comparing import COMPARISONS, GREATEST, LEAST
+from effects import Rows, made, refused
 from layouts import Made, tables_of
 from statements import Statement
-from writes import Add, Cond, Delete, Insert, Set, Update, Write
+from writes import Cond, Delete, Insert, Set, Update, Write, add
 
 TABLES = tables_of(
     (
@@ -46,7 +47,7 @@ VALUES: dict[str, tuple[Value, ...]] = {
 }
 # A text that is longer than any column may be compared with one.
 LONG = "b" * 40
-SIGNS = ("=", "<>", "<", "<=", ">", ">=")
+SIGNS = tuple(COMPARISONS)
 ADDED = (LEAST, -2, -1, 0, 1, 2, GREATEST)
 MOST_WRITES, MOST_SETS, MOST_CONDS = 12, 3, 3
 
@@ -71,10 +72,10 @@ def drawn_conds(chance: random.Random, table: TableLayout, row: Row | None) -> t
     return tuple(drawn_cond(chance, table, row) for _ in range(chance.randint(1, MOST_CONDS)))
 
 
-def drawn_set(chance: random.Random, table: TableLayout, place: int) -> Set | Add:
+def drawn_set(chance: random.Random, table: TableLayout, place: int) -> Set:
     column = table.columns[place]
     if column.type == "INT" and chance.random() < 0.5:
-        return Add(column.name, chance.choice(ADDED))
+        return add(column.name, chance.choice(ADDED))
     return Set(column.name, chance.choice(VALUES[column.name]))
 
 

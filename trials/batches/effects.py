@@ -1,29 +1,20 @@
 """What a write makes of the rows, or why it is refused, by the rules: each is tested on the rows as they are."""
 
-import operator
-from collections.abc import Callable, Sequence
+from collections.abc import Sequence
 
 from piql.layout import Reference, TableLayout, cells
 from piql.reports import Row, Value
 
+from comparing import COMPARISONS, GREATEST, LEAST
 from layouts import Tables
 from pairs import row_code
-from writes import Add, Cond, Delete, Insert, Update, Write, key_of, places_of
+from writes import ADD, Cond, Delete, Insert, Update, Write, key_of, places_of
 
 # The rows of each table, by its name and their keys.
 Rows = dict[str, dict[Row, Row]]
 # The code of a refusal and its fields, as a report has them.
 Refusal = tuple[str, ...]
 
-SIGNS: dict[str, Callable[[object, object], bool]] = {
-    "=": operator.eq,
-    "<>": operator.ne,
-    "<": operator.lt,
-    "<=": operator.le,
-    ">": operator.gt,
-    ">=": operator.ge,
-}
-LEAST, GREATEST = -(2**63), 2**63 - 1
 LONGEST_ROW = 4096
 
 
@@ -40,7 +31,7 @@ def holds(cond: Cond, value: Value) -> bool:
     """Whether a condition holds of a value: of NULL no comparison does."""
     if cond.sign == "IS NULL":
         return value is None
-    return value is not None and SIGNS[cond.sign](in_order(value), in_order(cond.value))
+    return value is not None and COMPARISONS[cond.sign](in_order(value), in_order(cond.value))
 
 
 def failing(table: TableLayout, row: Row, conds: Sequence[Cond]) -> Refusal | None:
@@ -51,13 +42,18 @@ def failing(table: TableLayout, row: Row, conds: Sequence[Cond]) -> Refusal | No
     return None if number is None else ("E511", table.name, str(number))
 
 
+def sum_of(value: Value, number: Value) -> int | None:
+    """The sum of two numbers. There is none of NULL, nor above the greatest one or below the least."""
+    if not isinstance(value, int) or not isinstance(number, int):
+        return None
+    return value + number if LEAST <= value + number <= GREATEST else None
+
+
 def no_sum(table: TableLayout, row: Row, write: Update) -> Refusal | None:
     """E514 of the first column that can't be added to."""
     for it in write.sets:
-        if isinstance(it, Add):
-            value = row[places_of(table)[it.column]]
-            if not isinstance(value, int) or not LEAST <= value + it.number <= GREATEST:
-                return ("E514", table.name, it.column)
+        if it.word == ADD and sum_of(row[places_of(table)[it.column]], it.value) is None:
+            return ("E514", table.name, it.column)
     return None
 
 
@@ -66,8 +62,7 @@ def changed(table: TableLayout, row: Row, write: Update) -> Row:
     values, places = list(row), places_of(table)
     for it in write.sets:
         at = places[it.column]
-        old = row[at]
-        values[at] = it.value if not isinstance(it, Add) else old + it.number if isinstance(old, int) else None
+        values[at] = sum_of(row[at], it.value) if it.word == ADD else it.value
     return tuple(values)
 
 

@@ -6,6 +6,8 @@ from piql.layout import TableLayout
 from piql.reports import Row, Value
 from piql.values import quoted
 
+ADD = "ADD"
+
 
 class Cond(NamedTuple):
     """What a column has to be like: a comparison with a value, or `IS NULL`, which has none."""
@@ -19,23 +21,18 @@ class Cond(NamedTuple):
 
 
 class Set(NamedTuple):
-    """A column that is set to a value."""
+    """A column that is set to a value; or by the word ADD one to which a number is added."""
 
     column: str
     value: Value
+    word: str = "="
 
     def text(self) -> str:
-        return f"{self.column} = {quoted(self.value)}"
+        return f"{self.column} {self.word} {quoted(self.value)}"
 
 
-class Add(NamedTuple):
-    """A column to which a number is added."""
-
-    column: str
-    number: int
-
-    def text(self) -> str:
-        return f"{self.column} ADD {self.number}"
+def add(column: str, number: int) -> Set:
+    return Set(column, number, ADD)
 
 
 class Insert(NamedTuple):
@@ -53,7 +50,7 @@ class Update(NamedTuple):
 
     table: str
     key: tuple[tuple[str, Value], ...]
-    sets: tuple[Set | Add, ...]
+    sets: tuple[Set, ...]
     conds: tuple[Cond, ...] = ()
 
     def text(self) -> str:

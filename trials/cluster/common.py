@@ -55,17 +55,22 @@ class Trial:
             if name is not None:
                 yield kind, self.url(kind, words)
 
-    def url(self, kind: str, words: str = "") -> str:
-        """A new store of a kind. A database has one, which is emptied."""
-        query = f"?{words}" if words else ""
+    def url(self, kind: str, words: str = "", schema: str = "public") -> str:
+        """A new store of a kind. A database has one in each schema, which is emptied."""
         if kind == "etcd":
             assert self.members is not None
-            return self.members.url(f"trial{next(NAMES)}", self.members.leader()) + query
+            return with_words(self.members.url(f"trial{next(NAMES)}", self.members.leader()), words)
         assert self.databases is not None
         for server in self.databases.processes:
             if self.databases.ask(server, "SELECT pg_is_in_recovery()") == "f":
-                self.databases.ask(server, "DROP TABLE IF EXISTS piql_pairs, piql_fence")
-        return self.databases.url() + query
+                self.databases.ask(server, f"DROP SCHEMA IF EXISTS {schema} CASCADE; CREATE SCHEMA {schema}")
+        return with_words(self.databases.url(), f"options=-c%20search_path%3D{schema}", words)
+
+
+def with_words(url: str, *words: str) -> str:
+    """A URL with words behind it."""
+    found = "&".join(filter(None, words))
+    return f"{url}?{found}" if found else url
 
 
 @dataclass(frozen=True)

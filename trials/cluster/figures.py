@@ -18,7 +18,7 @@ SCHEMA = """CREATE TABLE u (id INT, town TEXT(20), name TEXT(20), PRIMARY KEY (i
 PREPARE one AS SELECT * FROM u WHERE u.id = [1: id];
 PREPARE town AS SELECT * FROM u WHERE u.town = [1: town] ORDER BY u.id LIMIT 10;
 """
-CALLS = ("get", "range", "count", "write", "commit")
+CALLS = ("get", "range", "count", "alone", "together", "write", "commit")
 FILL_SECONDS = 120.0
 
 

@@ -5,10 +5,10 @@ from collections.abc import Iterator
 from dataclasses import dataclass
 from typing import NamedTuple
 
+from comparing import COMPARISONS, GREATEST, LEAST
 from queries import Column, Constant, Item, Parameter, Predicate, Query, Relation, Row, Stop, Table
-from values import COMPARISONS, Value
+from values import Value
 
-LEAST, GREATEST = -(2**63), 2**63 - 1
 # Of each type its least and its greatest value.
 ENDS: dict[str, tuple[Value, Value]] = {
     "INT": (LEAST, GREATEST),

@@ -1,6 +1,10 @@
 """The rules of the made cases, beside worked examples of the documents."""
 
+import pathlib
+import sys
 import unittest
+
+sys.path.append(str(pathlib.Path(__file__).resolve().parents[1]))
 
 from made import Family, row_sets
 from queries import Column, Item, Parameter, Predicate, Query, Relation, Stop, Table

@@ -1,19 +1,11 @@
 """Values, NULL among them: how they are ordered, compared, written and coded. NULL is None here."""
 
 import base64
-import operator
-from collections.abc import Callable, Sequence
+from collections.abc import Sequence
+
+from comparing import COMPARISONS
 
 Value = int | bool | str | None
-
-COMPARISONS: dict[str, Callable[[int, int], bool]] = {
-    "=": operator.eq,
-    "<>": operator.ne,
-    "<": operator.lt,
-    "<=": operator.le,
-    ">": operator.gt,
-    ">=": operator.ge,
-}
 
 
 def rank(value: Value) -> tuple[bool, int | bytes]:

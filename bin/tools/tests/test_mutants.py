@@ -46,7 +46,9 @@ class MutantsTest(unittest.TestCase):
         self.write(self.top / "crates/low/src/lib.rt", "")
         self.write(self.top / "crates/low/out/rlib/stamp", "kept")
         self.write(self.top / ".gitignore", "out/\n")
-        subprocess.run(["git", "init", "--quiet"], cwd=self.top, check=True)
+        self.git("init", "--quiet")
+        self.git("add", ".")
+        self.git("-c", "user.name=x", "-c", "user.email=x@x", "commit", "--quiet", "--message=x")
         self.path = self.top / "mutants" / "RESULTS"
         for changed in (
             mock.patch.object(mutants, "TOP", self.top),
@@ -56,6 +58,10 @@ class MutantsTest(unittest.TestCase):
         ):
             changed.start()
             self.addCleanup(changed.stop)
+
+    def git(self, *words: str) -> str:
+        done = subprocess.run(["git", *words], cwd=self.top, capture_output=True, text=True, check=True)
+        return done.stdout.strip()
 
     @staticmethod
     def write(path: pathlib.Path, text: str) -> None:
@@ -84,6 +90,16 @@ class MutantsTest(unittest.TestCase):
         self.assertEqual(self.run_main("--stale"), (0, ""))
         self.write(self.top / "crates/low/src/lib.rt", "// other")
         self.assertEqual(self.run_main("--stale")[0], 1)
+
+    def test_a_result_is_of_a_revision(self) -> None:
+        revision = self.git("rev-parse", "--short=8", "HEAD")
+        self.assertEqual(mutants.revision_of(self.top), revision)
+        self.write(self.top / "README.md", "another")
+        self.write(self.path, results.HEAD)
+        self.assertEqual(mutants.revision_of(self.top), revision)
+        self.edit("low", "one", "good")
+        self.run_main("low")
+        self.assertEqual(results.read(self.path)["low"].revision, f"{revision} with changes")
 
     def test_what_is_not_refused_fails(self) -> None:
         for word in ("weak", "unread"):

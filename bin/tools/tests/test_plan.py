@@ -63,6 +63,14 @@ class ReadingTest(unittest.TestCase):
             self.assertEqual(cost, bound)
         self.assertEqual([len(told.nodes) for told in found], [0, 0, 0, 0, 8, 6, 4, 0, 4, 0, 0, 0, 0])
 
+    def test_the_rounds_of_each_plan_are_those_of_its_reads(self) -> None:
+        found = list(read_plans((STORED / "stdout").read_text()))
+        self.assertEqual([told.rounds for told in found], [0, 0, 0, 0, 3, 3, 1, 0, 1, 0, 0, 0, 0])
+        for told in found:
+            # One for each read, and over an index one more for the rows of its entries.
+            reads = [1 + node.sequence.startswith("index") for node in told.nodes if node.sequence]
+            self.assertEqual(told.rounds, sum(reads))
+
 
 class PageTest(unittest.TestCase):
     def setUp(self) -> None:
@@ -75,8 +83,8 @@ class PageTest(unittest.TestCase):
         found = texts(run.stdout)
         heads = ["5: feed", "6: explain", "7: town", "9: select", *(f"{number}: refused" for number in range(10, 14))]
         self.assertEqual([text for text in found if re.match(r"\d+: ", text)], heads)
-        self.assertIn("bound: 104 operations, 403 entries", found)
-        wants = "bound: 106 operations, 605 entries; wants index 1 of thoughts (owner, stamp DESC)"
+        self.assertIn("bound: 104 operations, 403 entries, 3 rounds", found)
+        wants = "bound: 106 operations, 605 entries, 3 rounds; wants index 1 of thoughts (owner, stamp DESC)"
         self.assertIn(wants, found)
         self.assertEqual(run.stdout.count(' class="reads"/>') + run.stdout.count(' class="box"/>'), 22)
         self.assertTrue(any(text.startswith("E304 t: ") for text in found))

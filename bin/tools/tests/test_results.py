@@ -12,7 +12,7 @@ TOOLCHAIN = "kit-1 logic 0a"
 
 
 def result(crate: str, sources: str = "00", refused: int = 2) -> Result:
-    return Result(crate, refused, 2, sources, "2026-01-02T03:04Z", TOOLCHAIN)
+    return Result(crate, refused, 2, "0a1b2c3d", sources, "2026-01-02T03:04Z", TOOLCHAIN)
 
 
 class ResultsTest(unittest.TestCase):
@@ -23,10 +23,13 @@ class ResultsTest(unittest.TestCase):
         self.path = self.top / "RESULTS"
 
     def test_a_line_is_read_as_it_is_written(self) -> None:
-        line = "low: 1 of 2 refused, sources 0f, 2026-01-02T03:04Z, kit-1 logic 0a"
+        line = "low: 1 of 2 refused at 0a1b2c3d, sources 0f, 2026-01-02T03:04Z, kit-1 logic 0a"
         self.assertEqual(result("low", "0f", 1).line(), line)
         self.assertEqual(Result.of_line(line), result("low", "0f", 1))
-        self.assertIsNone(Result.of_line(results.HEAD.strip()))
+        changed = Result.of_line(line.replace(",", " with changes,", 1))
+        self.assertEqual(changed and changed.revision, "0a1b2c3d with changes")
+        for text in results.HEAD.splitlines():
+            self.assertIsNone(Result.of_line(text))
 
     def test_a_result_takes_the_place_of_the_last_one(self) -> None:
         for one in (result("high"), result("low"), result("gone"), result("low", "11")):
@@ -48,7 +51,7 @@ class ResultsTest(unittest.TestCase):
             "b": result("b", "00"),
             "c": result("c", repository.source_sum("c"), 1),
         }
-        wanted = ["b: changed since 2026-01-02T03:04Z", "c: 1 of 2 refused", "d: not tried yet"]
+        wanted = ["b: changed since 0a1b2c3d, 2026-01-02T03:04Z", "c: 1 of 2 refused", "d: not tried yet"]
         self.assertEqual(results.stale(repository, known), wanted)
 
 

@@ -10,13 +10,14 @@ sys.path[:0] = [str(TOP / "drivers/python"), str(TOP / "trials"), str(TOP / "tri
 
 import lengths  # noqa: E402 - the trial stands beside the tests
 from bounds import bound_of  # noqa: E402
+from comparing import GREATEST  # noqa: E402
 from drawn import TABLES, drawn_statement  # noqa: E402
-from effects import GREATEST, Rows, no_rows, refused  # noqa: E402
+from effects import Rows, no_rows, refused  # noqa: E402
 from layouts import Made, tables_of  # noqa: E402
 from pairs import changed_keys, length_of, pairs_of, row_code, row_key  # noqa: E402
 from statements import Statement, Wanted, wanted  # noqa: E402
 from piql.scripts import is_one_piece  # noqa: E402
-from writes import Add, Cond, Delete, Insert, Set, Update, key_of  # noqa: E402
+from writes import Cond, Delete, Insert, Set, Update, add, key_of  # noqa: E402
 
 FOLLOWERS = tables_of(
     [
@@ -86,7 +87,7 @@ class BatchTest(unittest.TestCase):
 
     def test_sums_see_each_other(self) -> None:
         rows = no_rows(PLAIN) | {"m": {(1,): (1, 1, 5)}}
-        writes = tuple(Update("m", at(1), (Add("v", 2),), (Cond("v", "=", value),)) for value in (1, 3))
+        writes = tuple(Update("m", at(1), (add("v", 2),), (Cond("v", "=", value),)) for value in (1, 3))
         found = wanted(PLAIN, rows, Statement(writes))
         self.assertEqual((found.refusal, found.bound, found.rows["m"][1,]), ((), (6, 2), (1, 5, 5)))
 
@@ -97,18 +98,18 @@ class WriteTest(unittest.TestCase):
     def test_the_row_that_is_there(self) -> None:
         rows = no_rows(PLAIN) | {"m": {(1,): (1, 7, 5), (2,): (2, None, 5), (3,): (3, GREATEST, 5)}}
         for write, wanted_refusal in (
-            (Update("m", at(9), (Add("v", 1),), (Cond("v", "=", 1),)), ("E504", "m")),
-            (Update("m", at(1), (Add("v", 1),), (Cond("v", "=", 7), Cond("w", "<", 5))), ("E511", "m", "2")),
-            (Update("m", at(2), (Add("v", 1),), (Cond("v", "<>", 7),)), ("E511", "m", "1")),
-            (Update("m", at(2), (Add("v", 1),), (Cond("v", "IS NULL"),)), ("E514", "m", "v")),
-            (Update("m", at(3), (Set("w", 1), Add("v", 1))), ("E514", "m", "v")),
-            (Update("m", at(3), (Add("v", 0),)), None),
+            (Update("m", at(9), (add("v", 1),), (Cond("v", "=", 1),)), ("E504", "m")),
+            (Update("m", at(1), (add("v", 1),), (Cond("v", "=", 7), Cond("w", "<", 5))), ("E511", "m", "2")),
+            (Update("m", at(2), (add("v", 1),), (Cond("v", "<>", 7),)), ("E511", "m", "1")),
+            (Update("m", at(2), (add("v", 1),), (Cond("v", "IS NULL"),)), ("E514", "m", "v")),
+            (Update("m", at(3), (Set("w", 1), add("v", 1))), ("E514", "m", "v")),
+            (Update("m", at(3), (add("v", 0),)), None),
             (Delete("m", at(1), (Cond("v", "IS NULL"),)), ("E511", "m", "1")),
         ):
             self.assertEqual(refused(PLAIN, rows, write), wanted_refusal, write.text())
 
     def test_texts(self) -> None:
-        write = Update("m", at(1), (Add("v", -2), Set("w", None)), (Cond("v", ">=", 2), Cond("w", "IS NULL")))
+        write = Update("m", at(1), (add("v", -2), Set("w", None)), (Cond("v", ">=", 2), Cond("w", "IS NULL")))
         self.assertEqual(write.text(), "UPDATE m SET v ADD -2, w = NULL WHERE id = 1 IF v >= 2 AND w IS NULL")
         batch = f"BATCH {NO_SUB.text()}, INSERT INTO users VALUES ('cat', 'oslo');"
         self.assertEqual(Statement((NO_SUB, CAT)).text(), batch)
