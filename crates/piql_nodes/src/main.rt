@@ -3,15 +3,18 @@
 #![tactic(auto)]
 
 ghost use Rattle.std.specs.Prelude.{◌≡◌, ◌⊎◌, ◌↔◌, ◌≤◌, IfErr, length};
+ghost use Rattle.pq_store.specs.Content.{HasRisen};
 ghost use Rattle.pq_fill.specs.Words.{IsForm};
 ghost use Rattle.pq_fill.specs.declared.words.Form.{Form};
+ghost use Rattle.pq_parts.specs.Spans.{faults_of};
 
 use pq_base::{Bytes, List, NoMem, PText};
 use pq_fill::form_of;
 use pq_host::{HostReader, HostStore, HostWriter, Line, Link};
 use pq_parts::{Part, PartStore};
-use pq_shell::{Status, StdSink, StdSource, WordsErr, read_words, run_piql};
+use pq_shell::{Sink, Source, Status, StdSink, StdSource, WordsErr, read_words, run_piql};
 use pq_store::{Meter, Opening, StoreErr};
+use std::alloc::Global;
 use std::io::{Stdin, Stdout};
 use std::marker::Brand;
 use std::process::ExitCode;
@@ -60,7 +63,28 @@ fn nodes_of<'a, N: Ledger + Drop>(
     }
 }
 
-fn run_on<'a, N: Ledger, L: Ledger>(
+// A node that fails raises the count of faults of its own store.
+fn run_on<'a, I: Source, O: Sink, N: Ledger, L: Ledger>(
+    alloc: Global,
+    words: &[PText],
+    source: &mut I,
+    store: &mut PartStore<HostStore<'a, Stdin, Stdout>, N>,
+    sink: &mut O,
+    meter: &mut Meter<L>,
+) -> Status
+    ensures usage { result ≡ Status.Usage ↔ ((form : Form) → ¬ IsForm form words.now) }
+    ensures untouched { result ≡ Status.Usage
+        → (source.new ≡ source.old) × (store.new ≡ store.old) × (sink.new ≡ sink.old) }
+    ensures read_fault { result ≡ Status.ReadFault → HasRisen (I.faults source.old) (I.faults source.new) }
+    ensures write_fault { result ≡ Status.WriteFault → HasRisen (O.faults sink.old) (O.faults sink.new) }
+    ensures store_fault { result ≡ Status.StoreFault
+        → HasRisen (faults_of (λ s. s.faults) store.old.parts) (faults_of (λ s. s.faults) store.new.parts) }
+{
+    run_piql(alloc, words, source, store, sink, meter)
+}
+
+// Makes the source and the sink of a line, and runs over them and its nodes.
+fn run_on_line<'a, N: Ledger, L: Ledger>(
     rt: &HostRuntime,
     line: &'a Line,
     words: &[PText],
@@ -73,7 +97,7 @@ fn run_on<'a, N: Ledger, L: Ledger>(
     let mut meter = meter;
     let mut source = StdSource::new(HostReader::new(link(rt, line)));
     let mut sink = StdSink::new(HostWriter::new(link(rt, line)));
-    run_piql(
+    run_on(
         rt.alloc(),
         words,
         &mut source,
@@ -101,7 +125,7 @@ fn run_over<N: Ledger + Drop, L: Ledger>(
     let line = Line::new();
     let meter = Meter::<L>::start(Opening::of(blank));
     match nodes_of(rt, &line, Meter::<N>::start(Opening::of(nodes))) {
-        Ok(store) => run_on(rt, &line, words, store, meter),
+        Ok(store) => run_on_line(rt, &line, words, store, meter),
         Err(status) => status,
     }
 }

@@ -1,4 +1,5 @@
 mod Codes
 mod Nexts
+mod Rounds
 mod Shown
 mod Worlds

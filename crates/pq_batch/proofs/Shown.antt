@@ -1,5 +1,5 @@
 -- Behind whose changes the damage of a batch shows.
-use Rattle.std.proofs.Common.{◌≡◌, ◌≤◌, ℕ, suc, List, ◌∷◌, length, map, take, Option, None, Result, refl, sym, ap, subst, arith}
+use Rattle.std.proofs.Common.{◌≡◌, ◌≤◌, ℕ, suc, List, [], ◌∷◌, length, map, take, Option, None, Result, refl, sym, ap, subst, arith}
 use Rattle.std.specs.Prelude.{IfErr}
 use Rattle.std.proofs.lemmas.Result.{IfErr-weaker}
 use Rattle.pq_row_code.specs.declared.changes.Change.{Change as Coded}
@@ -15,8 +15,10 @@ use Rattle.pq_calls.specs.World.{World, Explains}
 use Rattle.pq_pending.specs.Pending.{with_changes, seen_content, seen_answers}
 use Rattle.pq_index_keep.specs.declared.write.Write.{Write}
 use Rattle.pq_counters.specs.Whole.{HasWhole}
-use Rattle.pq_batch.specs.From.{ShowsSeen, ShowsFrom, AnswersFrom}
-use Rattle.pq_batch.specs.Promises.{AreBehind, AreOfWritesBefore}
+use Rattle.pq_batch.specs.From.{FinishesAs, ShowsSeen, ShowsFrom, AnswersFrom}
+use Rattle.pq_batch.specs.Promises.{AreBehind, AreOfWritesBefore, ChangesBehind}
+use Rattle.pq_batch.specs.declared.plan.PlannedBatch.{PlannedBatch}
+use Rattle.pq_batch.specs.declared.plan.PlannedBatch.TheVariants as planned
 
 -- ---- damage that shows in one way, in another one
 
@@ -46,6 +48,14 @@ module _ (schema : Schema) (all : List Write) (old : List Change) (some : 1 ≤ 
   answered_here answers h =
       answered_as (seen_answers answers old) (AnswersFrom schema all old answers) (λ key value given. (old, before_first schema None all old some, given)) error h
 
+-- ---- the changes of all writes
+
+pub behind_last : (schema : Schema) (told : Option Content) (all : List Write) (old : List Change) (result : PlannedBatch) → all ≡ [] → FinishesAs old result → ChangesBehind schema told all old result
+behind_last schema told all old (planned.Changes changes) none finishes =
+    subst (λ (ws : List Write). AreBehind schema told ws old (map change_of changes)) (sym none) finishes.0
+behind_last schema told all old (planned.Refused place cause) none finishes = tt
+behind_last schema told all old (planned.TooLong length) none finishes = tt
+
 -- ---- of the writes behind it
 
 -- whatever the store tells, they are changes of some row
@@ -59,6 +69,7 @@ untold schema told write changes h = record {
   fits = h.fits;
   own = h.own;
   counted = h.counted;
+  moves = tt;
 }
 
 module _ (schema : Schema) (all : List Write) (write : Write) (writes : List Write) (cut : all ≡ write ∷ writes) (old later : List Change) (more : List Coded) (later_is : later ≡ with_changes old (map change_of more)) where
@@ -71,6 +82,15 @@ module _ (schema : Schema) (all : List Write) (write : Write) (writes : List Wri
         made = subst (λ (ws : List Write). AreBehind schema told (take (suc h.place) ws) old after) (sym cut)
             (more, own, subst (λ (changes : List Change). AreBehind schema told (take h.place writes) changes after) later_is h.made);
       }
+
+  pub behind_later : (told now : Option Content) (result : PlannedBatch) → now ≡ told → HasWhole schema (seen_content old told) write more → ChangesBehind schema now writes later result → ChangesBehind schema told all old result
+  behind_later told now (planned.Changes changes) same own h =
+      let rest : AreBehind schema told writes (with_changes old (map change_of more)) (map change_of changes) =
+      subst (λ (before : List Change). AreBehind schema told writes before (map change_of changes)) later_is
+      (subst (λ (content : Option Content). AreBehind schema content writes later (map change_of changes)) same h) in
+      subst (λ (ws : List Write). AreBehind schema told ws old (map change_of changes)) (sym cut) (more, own, rest)
+  behind_later told now (planned.Refused place cause) same own h = tt
+  behind_later told now (planned.TooLong length) same own h = tt
 
   module _ {A : Type 0} (result : Result A Broke) where
     pub causes_later : (shows : Option Content → Damage → Type 0) (a b : World) → HasWhole schema (seen_content old a.told) write more → IfErr result (Explains (ShowsFrom schema writes later shows) a b)

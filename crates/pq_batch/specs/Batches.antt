@@ -1,5 +1,5 @@
 -- What a batch makes of the rows, and what it may use.
-use Rattle.std.specs.Prelude.{ℕ, ◌+◌, nat_le, List, [], ◌∷◌, map, length, Result, Ok, Err, if◌then◌else◌}
+use Rattle.std.specs.Prelude.{ℕ, ◌+◌, ◌*◌, nat_le, List, [], ◌∷◌, map, length, Result, Ok, Err, if◌then◌else◌}
 use Rattle.std.specs.List.{sum_by}
 use Rattle.pq_base.specs.declared.number.Bound.{Bound}
 use Rattle.pq_base.specs.declared.refusal.Refusal.{Refusal}
@@ -10,9 +10,12 @@ use Rattle.pq_content.specs.Pairs.{Change}
 use Rattle.pq_content.specs.Standing.{write_ops}
 use Rattle.pq_content.specs.Tables.{Rows}
 use Rattle.pq_pending.specs.Pending.{with_changes}
-use Rattle.pq_index_keep.specs.Bounds.{removers_of}
+use Rattle.pq_index_keep.specs.Bounds.{counted, removers_of}
+use Rattle.pq_index_keep.specs.Rounds.{alone_rounds}
 use Rattle.pq_index_keep.specs.declared.write.Write.{Write}
+use Rattle.pq_tallies.specs.Defined.{counters_in}
 use Rattle.pq_tallies.specs.Writes.{counted_effect}
+use Rattle.pq_counters.specs.Bounds.{counter_rounds}
 use Rattle.pq_counters.specs.Whole.{reads_behind, changes_by, whole_changes}
 
 -- ---- the bound
@@ -28,6 +31,15 @@ unfoldable pub batch_reads : Schema → ℕ → List Write → Bound
 batch_reads schema removers [] = no_reads
 batch_reads schema removers (write ∷ writes) =
     both (reads_behind removers schema write) (batch_reads schema (removers + removers_of write) writes)
+
+-- how often the store is asked for a write behind changes of others: what is tested may each be asked by itself then,
+-- between two rounds
+abbrev pub rounds_behind : Schema → Write → ℕ
+rounds_behind schema write =
+    alone_rounds write + 2 * counted schema.tables write + counter_rounds (counters_in schema) write
+
+abbrev pub batch_rounds : Schema → List Write → ℕ
+batch_rounds schema writes = sum_by (rounds_behind schema) writes
 
 -- the greatest number of pairs that change
 abbrev pub batch_changes : Schema → List Write → ℕ

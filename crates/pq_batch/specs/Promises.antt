@@ -69,6 +69,13 @@ AreBehind schema told (write ∷ writes) before after = (changes : List Coded)
     × HasWhole schema (seen_content before told) write changes
     × AreBehind schema told writes (with_changes before (map change_of changes)) after
 
+-- the changes are those of all writes, whatever the store tells
+abbrev pub ChangesBehind : Schema → Option Content → List Write → List Change → PlannedBatch → Type 0
+ChangesBehind schema told writes before (planned.Changes changes) =
+    AreBehind schema told writes before (map change_of changes)
+ChangesBehind schema told writes before (planned.Refused place cause) = Unit {0}
+ChangesBehind schema told writes before (planned.TooLong length) = Unit {0}
+
 -- the changes behind the first ones are those of the writes before one of these
 pub record AreOfWritesBefore (schema : Schema) (told : Option Content) (writes : List Write)
     (before after : List Change) : Type 0 where

@@ -1,5 +1,5 @@
 //! The plan of a batch.
-ghost use Rattle.std.specs.Prelude.{◌≡◌, ◌≤◌, ◌+◌, List, length, Some, IfOk, IfErr};
+ghost use Rattle.std.specs.Prelude.{◌≡◌, ◌≤◌, ◌+◌, List, [], length, Some, IfOk, IfErr};
 ghost use Rattle.std.specs.List.{AllByRecursion};
 ghost use Rattle.pq_content.specs.Pairs.{Pair};
 ghost use Rattle.pq_content.specs.Standing.{write_ops};
@@ -13,10 +13,10 @@ ghost use Rattle.pq_index_keep.specs.Promises.{IsShortWithin, RemovesFew};
 ghost use Rattle.pq_index_keep.specs.Sound.{IsWrite};
 ghost use Rattle.pq_tallies.specs.Counters.{HoldsCounted};
 ghost use Rattle.pq_counters.specs.Evidence.{ShowsCounted};
-ghost use Rattle.pq_counters.specs.Whole.{reads_behind, whole_changes, IsWholeWithin, ChangesWhole, RefusesWhole, PlansWhole};
-ghost use Rattle.pq_batch.specs.Batches.{batch_bound, batch_changes, batch_reads};
+ghost use Rattle.pq_counters.specs.Whole.{reads_behind, whole_changes, whole_rounds, IsWholeWithin, ChangesWhole, RefusesWhole, PlansWhole};
+ghost use Rattle.pq_batch.specs.Batches.{batch_bound, batch_changes, batch_reads, batch_rounds};
 ghost use Rattle.pq_batch.specs.From.{AreAhead, FinishesAs, PlansFrom, RefusesFrom, ShowsSeen, ShowsFrom, AnswersFrom};
-ghost use Rattle.pq_batch.specs.Promises.{IsBatch, IsBatchWithin, RefusesBatch, PlansBatch, ShowsBehind, AnswersBehind};
+ghost use Rattle.pq_batch.specs.Promises.{IsBatch, IsBatchWithin, ChangesBehind, RefusesBatch, PlansBatch, ShowsBehind, AnswersBehind};
 
 use crate::bound::removers_of;
 use pq_base::{List, Refusal};
@@ -74,6 +74,8 @@ fn plan_next<S: Store<L>, L: Ledger>(
     ensures uses { Uses S.content S.faults calls.old calls.new
         (reads_behind pending.now.removers catalog.now write.now).ops
         (reads_behind pending.now.removers catalog.now write.now).entries }
+    ensures rounds { S.rounds calls.new.store.now ≤ S.rounds calls.old.store.now
+        + whole_rounds pending.now.changes catalog.now write.now }
     ensures cause { IfErr result (Fails (ShowsSeen pending.now.changes (where_told (ShowsCounted catalog.now)))
         S.content S.faults calls.old calls.new) }
     ensures answered { IfErr result (IsAnswered (seen_answers S.answers pending.now.changes)) }
@@ -122,6 +124,7 @@ fn plan_from<S: Store<L>, L: Ledger>(
     ensures uses { Uses S.content S.faults calls.old calls.new
         (batch_reads catalog.now pending.removers writes.now).ops
         (batch_reads catalog.now pending.removers writes.now).entries }
+    ensures rounds { S.rounds calls.new.store.now ≤ S.rounds calls.old.store.now + batch_rounds catalog.now writes.now }
     ensures cause { IfErr result (Fails (ShowsFrom catalog.now writes.now pending.changes
         (where_told (ShowsCounted catalog.now))) S.content S.faults calls.old calls.new) }
     ensures answered { IfErr result (IsAnswered (AnswersFrom catalog.now writes.now pending.changes S.answers)) }
@@ -129,6 +132,8 @@ fn plan_from<S: Store<L>, L: Ledger>(
         → HoldsCounted (seen_content pending.changes (S.content calls.old.store.now)) catalog.now rows others
         → IsUndamaged error) }
     ensures plan { IfOk result (IsBatchWithin (length pending.changes + batch_changes catalog.now writes.now)) }
+    ensures own { IfOk result
+        (ChangesBehind catalog.now (S.content calls.old.store.now) writes.now pending.changes) }
     ensures can { IfOk result (RefusesFrom catalog.now writes.now place) }
     ensures answer { IfOk result (λ planned. (before : Content) (rows : Rows) (others : List Pair)
         → S.content calls.old.store.now ≡ Some before
@@ -165,6 +170,7 @@ pub fn plan_batch<S: Store<L>, L: Ledger>(
     ensures reads { Reads (world (S.content store.old) (S.faults store.old) allowance.old meter.old)
         (world (S.content store.new) (S.faults store.new) allowance.new meter.new)
         (batch_reads catalog.now 0 writes.now).ops (batch_reads catalog.now 0 writes.now).entries }
+    ensures rounds { S.rounds store.new ≤ S.rounds store.old + batch_rounds catalog.now writes.now }
     ensures left { Affords allowance.new (write_ops (batch_changes catalog.now writes.now)) 0 }
     ensures cause { IfErr result (Explains (ShowsBehind catalog.now writes.now (where_told (ShowsCounted catalog.now)))
         (world (S.content store.old) (S.faults store.old) allowance.old meter.old)
@@ -172,9 +178,10 @@ pub fn plan_batch<S: Store<L>, L: Ledger>(
     ensures answered { IfErr result (IsAnswered (AnswersBehind catalog.now writes.now S.answers)) }
     ensures undamaged { IfErr result (λ error. (rows : Rows) (others : List Pair)
         → HoldsCounted (S.content store.old) catalog.now rows others → IsUndamaged error) }
-    // Over every store, told or not: the changes are some that an intent can hold, and a refusal is one that the write
-    // at its place can have.
+    // Over every store, told or not: the changes are some that an intent can hold, those of each write by the row that
+    // it finds behind the writes before it, and a refusal is one that the write at its place can have.
     ensures plan { IfOk result (IsBatchWithin (batch_changes catalog.now writes.now)) }
+    ensures own { IfOk result (ChangesBehind catalog.now (S.content store.old) writes.now []) }
     ensures can { IfOk result (RefusesBatch catalog.now writes.now) }
     ensures answer { IfOk result (λ planned. (rows : Rows) (others : List Pair)
         → HoldsCounted (S.content store.old) catalog.now rows others

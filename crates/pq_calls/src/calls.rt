@@ -1,5 +1,5 @@
 //! Single calls on a store, each paid from an allowance.
-ghost use Rattle.std.specs.Prelude.{◌≡◌, ◌≤◌, ◌<◌, ◌*◌, position, length, map, take, min, is_some, Some, IfOk, IfErr, IfSome};
+ghost use Rattle.std.specs.Prelude.{◌≡◌, ◌≤◌, ◌<◌, ◌+◌, ◌*◌, position, length, map, take, min, is_some, Some, IfOk, IfErr, IfSome};
 ghost use Rattle.std.specs.List.{AllByRecursion, AllZip, sum_by};
 ghost use Rattle.std.specs.FinMap.{get as value_at};
 ghost use Rattle.pq_store.specs.Breaks.{IsAnswered};
@@ -26,6 +26,7 @@ impl<'a, S: Store<L>, L: Ledger> Calls<'a, S, L> {
     pub fn get(&mut self, alloc: Global, key: &[u8]) -> Result<Option<Bytes>, Broke>
         requires share { Affords self.old.allowance.now 1 1 }
         ensures uses { Uses S.content S.faults self.old self.new 1 1 }
+        ensures round { S.rounds self.new.store.now ≤ S.rounds self.old.store.now + 1 }
         ensures cause { IfErr result (Fails no_damage S.content S.faults self.old self.new) }
         ensures answered { IfErr result (IsAnswered S.answers) }
         ensures answer { IfOk result (λ found. IfSome (S.content self.old.store.now)
@@ -49,6 +50,7 @@ impl<'a, S: Store<L>, L: Ledger> Calls<'a, S, L> {
         requires limit { 1 ≤ limit }
         requires share { Affords self.old.allowance.now 1 limit }
         ensures uses { Uses S.content S.faults self.old self.new 1 limit }
+        ensures round { S.rounds self.new.store.now ≤ S.rounds self.old.store.now + 1 }
         ensures cause { IfErr result (Fails no_damage S.content S.faults self.old self.new) }
         ensures answered { IfErr result (IsAnswered S.answers) }
         ensures answer { IfOk result (λ found. IfSome (S.content self.old.store.now) (λ c.
@@ -67,6 +69,7 @@ impl<'a, S: Store<L>, L: Ledger> Calls<'a, S, L> {
     pub fn count(&mut self, alloc: Global, low: &[u8], high: &[u8], cap: u32) -> Result<u32, Broke>
         requires share { Affords self.old.allowance.now 1 cap }
         ensures uses { Uses S.content S.faults self.old self.new 1 cap }
+        ensures round { S.rounds self.new.store.now ≤ S.rounds self.old.store.now + 1 }
         ensures cause { IfErr result (Fails no_damage S.content S.faults self.old self.new) }
         ensures answered { IfErr result (IsAnswered S.answers) }
         ensures answer { IfOk result (λ n. IfSome (S.content self.old.store.now) (λ c.
@@ -86,6 +89,7 @@ impl<'a, S: Store<L>, L: Ledger> Calls<'a, S, L> {
     ) -> Result<List<Option<Bytes>>, Broke>
         requires share { Affords self.old.allowance.now (length keys.now) (length keys.now) }
         ensures uses { Uses S.content S.faults self.old self.new (length keys.now) (length keys.now) }
+        ensures round { S.rounds self.new.store.now ≤ S.rounds self.old.store.now + 1 }
         ensures cause { IfErr result (Fails no_damage S.content S.faults self.old self.new) }
         ensures answered { IfErr result (IsAnswered S.answers) }
         ensures long { IfOk result (λ found. length found ≡ length keys.now) }
@@ -106,6 +110,7 @@ impl<'a, S: Store<L>, L: Ledger> Calls<'a, S, L> {
         requires limit { 1 ≤ limit }
         requires share { Affords self.old.allowance.now (length asks.now) (length asks.now * limit) }
         ensures uses { Uses S.content S.faults self.old self.new (length asks.now) (length asks.now * limit) }
+        ensures round { S.rounds self.new.store.now ≤ S.rounds self.old.store.now + 1 }
         ensures cause { IfErr result (Fails no_damage S.content S.faults self.old self.new) }
         ensures answered { IfErr result (IsAnswered S.answers) }
         ensures long { IfOk result (λ found. length found ≡ length asks.now) }
@@ -123,6 +128,7 @@ impl<'a, S: Store<L>, L: Ledger> Calls<'a, S, L> {
     pub fn first_held(&mut self, alloc: Global, tests: &[Test]) -> Result<Option<usize>, Broke>
         requires share { Affords self.old.allowance.now (length tests.now) (sum_by test_entries tests.now) }
         ensures uses { Uses S.content S.faults self.old self.new (length tests.now) (sum_by test_entries tests.now) }
+        ensures round { S.rounds self.new.store.now ≤ S.rounds self.old.store.now + 1 }
         ensures cause { IfErr result (Fails no_damage S.content S.faults self.old self.new) }
         ensures answered { IfErr result (IsAnswered S.answers) }
         ensures answer { IfOk result (λ at. IfSome (S.content self.old.store.now)
@@ -139,6 +145,7 @@ impl<'a, S: Store<L>, L: Ledger> Calls<'a, S, L> {
     pub fn has_value(&mut self, alloc: Global, at: &[u8]) -> Result<bool, Broke>
         requires share { Affords self.old.allowance.now 1 1 }
         ensures uses { Uses S.content S.faults self.old self.new 1 1 }
+        ensures round { S.rounds self.new.store.now ≤ S.rounds self.old.store.now + 1 }
         ensures cause { IfErr result (Fails no_damage S.content S.faults self.old self.new) }
         ensures answered { IfErr result (IsAnswered S.answers) }
         ensures answer { IfOk result (λ there. IfSome (S.content self.old.store.now) (λ c.

@@ -1,5 +1,5 @@
 //! Rows by their keys.
-ghost use Rattle.std.specs.Prelude.{◌≡◌, option_map, None, IfOk, IfErr, IfSome, IfNone};
+ghost use Rattle.std.specs.Prelude.{◌≡◌, ◌≤◌, ◌+◌, option_map, None, IfOk, IfErr, IfSome, IfNone};
 ghost use Rattle.std.specs.FinMap.{get as value_at};
 ghost use Rattle.pq_base.specs.Shapes.{row_shape};
 ghost use Rattle.pq_base.specs.Values.{AllFit};
@@ -70,6 +70,7 @@ impl<'a, S: Store<L>, L: Ledger> Calls<'a, S, L> {
     ) -> Result<Option<StoredRow>, Broke>
         requires share { Affords self.old.allowance.now 1 1 }
         ensures uses { Uses S.content S.faults self.old self.new 1 1 }
+        ensures round { S.rounds self.new.store.now ≤ S.rounds self.old.store.now + 1 }
         ensures cause { IfErr result (Fails (IsNoRowAt (row_shape types.now fillers.now) at) S.content S.faults
             self.old self.new) }
         ensures read { IfOk result (λ found. IfSome (S.content self.old.store.now) (λ c.
@@ -97,6 +98,7 @@ impl<'a, S: Store<L>, L: Ledger> Calls<'a, S, L> {
     ) -> Result<Option<StoredRow>, Broke>
         requires share { Affords self.old.allowance.now 1 1 }
         ensures uses { Uses S.content S.faults self.old self.new 1 1 }
+        ensures round { S.rounds self.new.store.now ≤ S.rounds self.old.store.now + 1 }
         ensures cause { IfErr result (Fails (IsNoRowAt (shape_of table.now) (row_key number key.now)) S.content
             S.faults self.old self.new) }
         ensures read { IfOk result (λ found. IfSome (S.content self.old.store.now) (λ c.

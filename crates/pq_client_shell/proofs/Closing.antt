@@ -23,6 +23,7 @@ use Rattle.pq_clients.specs.declared.outcome.Wrote.{Wrote}
 use Rattle.pq_catalog.specs.Model.{Model}
 use Rattle.pq_catalog.specs.Stands.{Opens, Stands}
 use Rattle.pq_catalog.proofs.Standing.{settled_opens}
+use Rattle.pq_shell.specs.Answered.{IsAnsweredStop}
 use Rattle.pq_shell.specs.Fold.{Moment, MadeReports, ServedItems, StoppedItem, after}
 use Rattle.pq_shell.specs.Items.{cut_items}
 use Rattle.pq_shell.specs.Making.{moment}
@@ -79,8 +80,8 @@ halts_front {answers = answers} k first script stop from now ps ps_is count coun
 
 -- a session that could not be started
 pub stops_opening : {answers : List ℕ → Option (List ℕ) → Type 0} (k : ℕ) (stop : Stop) (left left' : Option (List ℕ)) (old now : Option Content) (held : Option (List ℕ)) (before after : Counts)
-    → ((held : Option (List ℕ)) → StoppedOpening stop (moment old held before) (moment now held after)) → BrokenClients answers k stop (run_world left old held before) (run_world left' now held after)
-stops_opening k stop left left' old now held before after stopped = Early (record { stopped = stopped held; silent = refl })
+    → ((held : Option (List ℕ)) → StoppedOpening stop (moment old held before) (moment now held after)) → IsAnsweredStop answers stop → BrokenClients answers k stop (run_world left old held before) (run_world left' now held after)
+stops_opening k stop left left' old now held before after stopped answered = Early (record { stopped = stopped held; silent = refl; answered = answered })
 
 -- one that was started, behind which memory was wanting
 pub stops_reading : {answers : List ℕ → Option (List ℕ) → Type 0} (k : ℕ) (left left' : Option (List ℕ)) (old now : Option Content) (held : Option (List ℕ)) (before after : Counts) (first : Schema) → OpensStore old now first before after → BrokenClients answers k stops.NoMem (run_world left old held before) (run_world left' now held after)
@@ -88,6 +89,7 @@ stops_reading k left left' old now held before after first opening = Early (reco
   stopped = cut_opening old now before after opening.line opening.bounded opening.ops opening.entries (λ m opens. (opening.opens m opens).0) opening.left (quiet_stays old now opening.left)
       stops.NoMem held held (λ m opens. settled_opens (opening.opens m opens).1.settled) refl;
   silent = refl;
+  answered = tt;
 })
 
 abbrev opened_so : (left left' : Option (List ℕ)) (old mid : Option Content) (held : Option (List ℕ)) (before between : Counts) (first : Schema) (script : Script) → OpensStore old mid first before between → IsRead left left' script → Opened (run_world left old held before) left' script

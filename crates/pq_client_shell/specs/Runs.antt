@@ -29,6 +29,7 @@ use Rattle.pq_catalog.specs.Model.{Model}
 use Rattle.pq_catalog.specs.Stands.{Opens, Stands, content_of, others_of}
 use Rattle.pq_opening.specs.Opening.{IsOpening, LeavesRead, TellsSchema}
 use Rattle.pq_opening.specs.Within.{IsBounded}
+use Rattle.pq_shell.specs.Answered.{IsAnsweredStop}
 use Rattle.pq_shell.specs.Fold.{Moment, MadeReports, StoppedItem}
 use Rattle.pq_shell.specs.Items.{cut_items}
 use Rattle.pq_shell.specs.Making.{moment}
@@ -208,10 +209,13 @@ pub record FinishedClients (k : ℕ) (ending : Ending) (refused : Bool) (before 
 
 -- ---- a run that stopped
 
--- before the first piece was made, as a run stops at its opening, with nothing written
-pub record StopsEarly (stop : Stop) (before now : RunWorld) : Type 0 where
+-- before the first piece was made, as a run stops at its opening, with nothing written; and whether the store tells or
+-- not, damage is told of what a call may answer
+pub record StopsEarly (answers : List ℕ → Option (List ℕ) → Type 0) (stop : Stop)
+    (before now : RunWorld) : Type 0 where
   pub stopped : StoppedOpening stop before.moment now.moment
   pub silent : now.moment.held ≡ before.moment.held
+  pub answered : IsAnsweredStop answers stop
 
 -- among the pieces
 pub record StopsAmong (answers : List ℕ → Option (List ℕ) → Type 0) (k : ℕ) (stop : Stop)
@@ -222,7 +226,7 @@ pub record StopsAmong (answers : List ℕ → Option (List ℕ) → Type 0) (k :
 
 pub data BrokenClients (answers : List ℕ → Option (List ℕ) → Type 0) (k : ℕ) (stop : Stop)
     (before now : RunWorld) : Type 0 where
-  Early : StopsEarly stop before now → BrokenClients answers k stop before now
+  Early : StopsEarly answers stop before now → BrokenClients answers k stop before now
   Among : StopsAmong answers k stop before now → BrokenClients answers k stop before now
 
 -- damage was found, and so much of the line that names its key is out
@@ -249,3 +253,10 @@ Ends answers k status.Damaged before now = NamesDamage answers k (λ line whole.
 Ends answers k status.NoMem before now =
     BrokenClients answers k stops.NoMem before now ⊎ NamesDamage answers k (λ line whole. line ≡ []) before now
 Ends answers k status.TooLong before now = (refused : Bool) × FinishedClients k TooLong refused before now
+
+-- a script was read within the limit: to its end, or to a fault
+abbrev pub IsReadWithin : Status → Type 0
+IsReadWithin status.Good = Unit {0}
+IsReadWithin status.SomeRefused = Unit {0}
+IsReadWithin status.ReadFault = Unit {0}
+IsReadWithin _ = ⊥

@@ -4,12 +4,13 @@ ghost use Rattle.std.specs.Io.KnownBytes.{prepend_known};
 ghost use Rattle.pq_store.specs.Content.{HasRisen};
 ghost use Rattle.pq_catalog.specs.Model.{Model};
 ghost use Rattle.pq_catalog.specs.Stands.{Opens};
+ghost use Rattle.pq_shell.specs.Answered.{IsAnsweredStop};
 ghost use Rattle.pq_shell.specs.Making.{moment};
 ghost use Rattle.pq_shell.specs.Openings.{StoppedOpening};
 ghost use Rattle.pq_console.specs.Reading.{CountsBytes, script_limit};
 ghost use Rattle.pq_shell.specs.Run.{IsPlain, run_world};
 ghost use Rattle.pq_console.specs.Stops.{Causes};
-ghost use Rattle.pq_client_shell.specs.Runs.{OpensStore, MadeRead, HaltsRead, FinishedClients, BrokenClients, Ends};
+ghost use Rattle.pq_client_shell.specs.Runs.{OpensStore, MadeRead, HaltsRead, FinishedClients, BrokenClients, Ends, IsReadWithin};
 ghost use Rattle.pq_client_shell.specs.Words.{AreWords};
 ghost use Rattle.pq_client_shell.specs.Writes.{front_count};
 
@@ -39,6 +40,7 @@ fn open<S: Store<L>, L: Ledger>(
     ensures err { IfErr result (λ stop. (held : Option (List ℕ)) → StoppedOpening stop
         (moment (S.content store.old) held meter.old) (moment (S.content store.new) held meter.new)) }
     ensures causes { Causes (S.faults store.old) (S.faults store.new) 0 0 result }
+    ensures answered { IfErr result (IsAnsweredStop S.answers) }
 {
     match start(alloc, store, meter) {
         Ok(started) => Ok(started.planned),
@@ -147,6 +149,8 @@ pub fn run_piql_clients<S: Store<L>, I: Source, O: Sink, L: Ledger>(
     // where the script is too long.
     ensures reads { I.count source.new ≤ I.count source.old + (script_limit + 1) }
     ensures too_long { result ≡ Status.TooLong → I.count source.new ≡ I.count source.old + (script_limit + 1) }
+    // A script that was read to its end, or to a fault, is within the limit.
+    ensures short { IsReadWithin result → I.count source.new ≤ I.count source.old + script_limit }
     // Over a store that opens, without a fault, and where the source had no more bytes than a script may have, the
     // run is made to its end, whether the source tells or not.
     ensures complete { (k : ℕ) → AreWords k words.now → (m : Model) → Opens (S.content store.old) m
@@ -183,6 +187,7 @@ fn run<S: Store<L>, I: Source, O: Sink, L: Ledger>(
         × (length taken ≤ script_limit + 1) }
     ensures reads { I.count source.new ≤ I.count source.old + (script_limit + 1) }
     ensures too_long { result ≡ Status.TooLong → I.count source.new ≡ I.count source.old + (script_limit + 1) }
+    ensures short { IsReadWithin result → I.count source.new ≤ I.count source.old + script_limit }
 {
     let outcome = run_script(alloc, k, source, store, meter, sink);
     close(alloc, outcome, sink)

@@ -31,7 +31,7 @@ use Rattle.pq_tallies.specs.Defined.{counters_in}
 use Rattle.pq_tallies.specs.Writes.{counted_effect, full_refusal, unless_full}
 use Rattle.pq_counters.specs.Bounds.{all_moves, counter_reads, whole_bound, whole_ops}
 use Rattle.pq_counters.specs.Promises.{IsCounterChange, AreCounterChanges, MakesCounts, RefusesAsFull}
-use Rattle.pq_counters.specs.Whole.{whole_reads, reads_behind, whole_changes, AreWhole, HasWhole, MakesWhole, RefusesWhole, PlansWhole}
+use Rattle.pq_counters.specs.Whole.{whole_reads, reads_behind, whole_changes, AreWhole, CountsBy, HasWhole, MakesWhole, RefusesWhole, PlansWhole}
 use Rattle.pq_counters.proofs.Small.{few_row_changes, moves_few, some_changes, more_ops}
 
 -- ---- what an intent may hold
@@ -80,8 +80,9 @@ are_whole schema w changes more all v may p c is = subst (AreWhole (whole_change
 
 -- ---- the changes of the row that was read, and those of counters
 
-pub has_whole : (schema : Schema) (told : Option Content) (w : Write) (old : Option (List Value)) (changes more all : List Coded) → IfSome told (λ content. IsReadFor schema.tables w content old) → FitsItsTable schema.tables w old → HasOwn schema.tables w old (map change_of changes) → All IsCounterChange more → all ≡ changes ++ more → HasWhole schema told w all
-has_whole schema told w old changes more all read fits own counted both = record {
+pub has_whole : (schema : Schema) (told : Option Content) (w : Write) (old : Option (List Value)) (changes more all : List Coded) → IfSome told (λ content. IsReadFor schema.tables w content old) → FitsItsTable schema.tables w old → HasOwn schema.tables w old (map change_of changes) → All IsCounterChange more
+    → CountsBy schema w old told (planned.Changes more) → all ≡ changes ++ more → HasWhole schema told w all
+has_whole schema told w old changes more all read fits own counted counts both = record {
   old = old;
   rows = map change_of changes;
   counts = more;
@@ -90,6 +91,7 @@ has_whole schema told w old changes more all read fits own counted both = record
   fits = fits;
   own = own;
   counted = counted;
+  moves = counts (map change_of changes) own;
 }
 
 -- ---- the effect, where counters count

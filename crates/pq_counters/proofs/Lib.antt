@@ -1,11 +1,12 @@
 pub mod Behind
-pub mod Keyed
 pub mod Counting
 pub mod Found
+pub mod Grouping
 pub mod Joining
 pub mod Loop
 pub mod Moving
 pub mod Own
+pub mod Planning
 pub mod Showing
 pub mod Short
 pub mod Small

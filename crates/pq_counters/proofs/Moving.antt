@@ -161,11 +161,11 @@ updates_within t key sets conds old cs = sum_by-le-sum_by (moves_of t (Some old)
 none_moved : (t : ℕ) (c : NumberedCounter) (n : ℕ) → moves_of t None None c ≤ n
 none_moved t c n = elim (t == c.table) as (λ b. move_count (cond b (moved c None None) no_move) ≤ n) [ true ↦ omega arith | false ↦ omega arith ]
 
-deleted_within : (t : ℕ) (key : List Value) (conds : List Cond) (cs : List NumberedCounter) (o : Option (List Value)) → sum_by (moves_of t o None) cs ≤ all_moves cs (write.Delete t key conds)
+pub deleted_within : (t : ℕ) (key : List Value) (conds : List Cond) (cs : List NumberedCounter) (o : Option (List Value)) → sum_by (moves_of t o None) cs ≤ all_moves cs (write.Delete t key conds)
 deleted_within t key conds cs None = sum_by-le-sum_by (moves_of t None None) (most_moves (write.Delete t key conds)) cs (λ c. none_moved t c (most_moves (write.Delete t key conds) c))
 deleted_within t key conds cs (Some old) = deletes_within t key conds old cs
 
-updated_within : (t : ℕ) (key : List Value) (sets : List SetCol) (conds : List Cond) (cs : List NumberedCounter) (o : Option (List Value)) → sum_by (moves_of t o (option_map (with_sets sets) o)) cs ≤ all_moves cs (write.Update t key sets conds)
+pub updated_within : (t : ℕ) (key : List Value) (sets : List SetCol) (conds : List Cond) (cs : List NumberedCounter) (o : Option (List Value)) → sum_by (moves_of t o (option_map (with_sets sets) o)) cs ≤ all_moves cs (write.Update t key sets conds)
 updated_within t key sets conds cs None = sum_by-le-sum_by (moves_of t None None) (most_moves (write.Update t key sets conds)) cs (λ c. none_moved t c (most_moves (write.Update t key sets conds) c))
 updated_within t key sets conds cs (Some old) = updates_within t key sets conds old cs
 
@@ -198,7 +198,7 @@ nothing_moves rows t old new (c ∷ cs) none =
 
 -- ---- counters of other tables
 
-other_count : (t : ℕ) (old new : Option (List Value)) (c : NumberedCounter) → (c.table == t) ≡ false → move_in t old new c ≡ no_move
+pub other_count : (t : ℕ) (old new : Option (List Value)) (c : NumberedCounter) → (c.table == t) ≡ false → move_in t old new c ≡ no_move
 other_count t old new c other = ap (λ b. cond b (moved c old new) no_move) (flip t c.table other)
   where
     flip : (a b : ℕ) → (b == a) ≡ false → (a == b) ≡ false

@@ -42,12 +42,3 @@ pub told_is : (told : Option Content) (key : List ℕ) (m n : ℕ) → IfSome to
 told_is told key m n read few t =
     let here : IsCounted (get t.content key) m = subst (λ (o : Option Content). IfSome o (λ content. IsCounted (get content key) m)) t.is read in
     counted_is m n few t.few (subst (λ (o : Option (List ℕ)). IsCounted o m) t.has here)
-
--- that none was read shows that none is there
-pub absent_from : (told : Option Content) (key : List ℕ) (m : ℕ) → m ≡ 0 → IfSome told (λ content. IsCounted (get content key) m) → IfSome told (λ content. get content key ≡ None)
-absent_from None key m zero read = tt
-absent_from (Some content) key m zero read =
-    elim (get content key) as (λ o. IsCounted o m → o ≡ None) [
-      | None ↦ λ _. refl
-      | Some code ↦ λ h. absurd (let some = h.1 in omega arith)
-    ] read

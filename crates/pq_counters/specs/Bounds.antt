@@ -37,6 +37,14 @@ reread counters write = if all_moves counters write == 0 then 0 else rereading w
 abbrev pub counter_reads : List NumberedCounter → Write → ℕ
 counter_reads counters write = reread counters write + all_moves counters write
 
+-- one round where something is asked for, else none
+abbrev pub round_of : ℕ → ℕ
+round_of n = if n == 0 then 0 else 1
+
+-- the groups of all counters are asked for in one round
+abbrev pub counter_rounds : List NumberedCounter → Write → ℕ
+counter_rounds counters write = round_of (all_moves counters write)
+
 -- the operations of the changes of rows, entries and counters
 abbrev pub whole_ops : Schema → Write → ℕ
 whole_ops schema write = write_ops (most_changes schema.tables write + all_moves (counters_in schema) write)

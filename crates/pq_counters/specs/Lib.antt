@@ -1,5 +1,6 @@
 pub mod Bounds
 pub mod Evidence
+pub mod Groups
 pub mod Promises
 pub mod Steps
 pub mod Whole

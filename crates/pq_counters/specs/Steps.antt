@@ -1,10 +1,8 @@
 -- The steps of a plan: what is read of a group, what is changed of it, and what shows damage there.
-use Rattle.std.specs.Prelude.{◌≡◌, ◌⊎◌, ℕ, ◌+◌, ◌≤◌, ◌<◌, Bool, true, not, List, ◌++◌, map, length, Option, Some, None, option_map, is_none, is_some, if◌then◌else◌, IfSome, All}
+use Rattle.std.specs.Prelude.{◌≡◌, ◌⊎◌, ℕ, ◌+◌, ◌≤◌, ◌<◌, List, map, length, Option, Some, None, option_map, is_none, if◌then◌else◌, IfSome, All}
 use Rattle.std.specs.FinMap.{get}
-use Rattle.pq_base.specs.declared.refusal.Refusal.{Refusal}
 use Rattle.pq_base.specs.declared.value.Value.{Value}
 use Rattle.pq_base.specs.Values.{AllFit}
-use Rattle.pq_row_code.specs.declared.changes.Change.{Change as Coded}
 use Rattle.pq_schema.specs.declared.made.Definition.{Definition}
 use Rattle.pq_schema.specs.declared.made.Definition.TheVariants.{OfTable, OfQuery, OfColumn, OfCounter}
 use Rattle.pq_schema.specs.declared.table.Table.{Table}
@@ -12,7 +10,6 @@ use Rattle.pq_schema.specs.Counters.{IsCounterNumber}
 use Rattle.pq_schema.specs.Rows.{types_of}
 use Rattle.pq_schema.specs.Schema.{Schema}
 use Rattle.pq_schema.specs.Tables.{table_at}
-use Rattle.pq_content.specs.Pairs.{Change}
 use Rattle.pq_content.specs.Standing.{change_of}
 use Rattle.pq_content.specs.Tables.{Rows}
 use Rattle.pq_store.specs.Content.{Content}
@@ -27,7 +24,7 @@ use Rattle.pq_index_keep.specs.declared.write.Write.{Write}
 use Rattle.pq_index_keep.specs.declared.write.Write.TheVariants as write
 use Rattle.pq_tallies.specs.Counters.{most_count, tally, counter_key, stored_count}
 use Rattle.pq_tallies.specs.Defined.{NumberedCounter, counter_numbered}
-use Rattle.pq_tallies.specs.Moves.{GroupMove, group_key, move_in, joined_changes, move_changes, moves_changes, is_full_group, first_full}
+use Rattle.pq_tallies.specs.Moves.{GroupMove, group_key, move_in, moves_changes, first_full}
 use Rattle.pq_tallies.specs.Writes.{counter_full}
 use Rattle.pq_counters.specs.Evidence.{IsNoCountAt, IsAbsentAt}
 
@@ -61,10 +58,6 @@ pub record ComesInPlace (table : Table) (sets : List SetCol) (old new : List Val
 abbrev pub some_count : Option (List Value) → ℕ
 some_count None = 0
 some_count (Some values) = 1
-
-abbrev pub key_count : Option (List ℕ) → ℕ
-key_count None = 0
-key_count (Some key) = 1
 
 abbrev pub move_count : GroupMove → ℕ
 move_count move = some_count move.from + some_count move.to
@@ -110,28 +103,6 @@ TellsGroup told counter (Some values) rows =
 pub record TellsMove (told : Option Content) (counter : NumberedCounter) (move : GroupMove) (rows : Rows) : Type 0 where
   pub from : TellsGroup told counter move.from rows
   pub to : TellsGroup told counter move.to rows
-
--- one more row than n, where there may be
-abbrev pub IsJoined : ℕ → Option Coded → Type 0
-IsJoined n None = n ≡ most_count
-IsJoined n (Some change) = (n < most_count) × (change.new ≡ stored_count (n + 1))
-
--- whether the group has room; where it has, these are the changes, behind those before
-pub record JoinsGroup (rows : Rows) (counter : NumberedCounter) (to : Option (List Value)) (before after : List Change)
-    (room : Bool) : Type 0 where
-  pub room_is : room ≡ not (is_full_group rows counter to)
-  pub changes : room ≡ true → after ≡ before ++ joined_changes rows counter to
-
-pub record MovesRow (rows : Rows) (counter : NumberedCounter) (move : GroupMove) (before after : List Change)
-    (room : Bool) : Type 0 where
-  pub room_is : room ≡ not (is_full_group rows counter move.to)
-  pub changes : room ≡ true → after ≡ before ++ move_changes rows counter move
-
--- the same with the refusal of a counter whose group is full
-pub record MovesCounter (rows : Rows) (counter : NumberedCounter) (move : GroupMove) (before after : List Change)
-    (full : Option Refusal) : Type 0 where
-  pub full_is : is_some full ≡ is_full_group rows counter move.to
-  pub changes : full ≡ None → after ≡ before ++ move_changes rows counter move
 
 -- the changes for a row that goes and one that comes, or the refusal of the first counter of which a group is full
 abbrev pub PlansMoves : List NumberedCounter → Rows → ℕ → Option (List Value) → Option (List Value) → Planned → Type 0

@@ -1,5 +1,5 @@
 -- What the whole plan of a write promises: its changes of rows and entries, and behind them those of its counters.
-use Rattle.std.specs.Prelude.{◌≡◌, ◌⊎◌, ℕ, ◌+◌, ◌*◌, ◌≤◌, All, List, ◌++◌, map, length, Option, IfSome, Err, MatchResult}
+use Rattle.std.specs.Prelude.{◌≡◌, ◌⊎◌, ℕ, ◌+◌, ◌*◌, ◌≤◌, All, List, ◌++◌, map, length, Option, Some, None, option_map, IfSome, Err, MatchResult}
 use Rattle.pq_base.specs.declared.number.Bound.{Bound}
 use Rattle.pq_base.specs.declared.refusal.Refusal.{Refusal}
 use Rattle.pq_base.specs.declared.value.Value.{Value}
@@ -14,14 +14,17 @@ use Rattle.pq_index_keep.specs.Bounds.{counted, most_changes, write_tests}
 use Rattle.pq_index_keep.specs.Effects.{changes_of}
 use Rattle.pq_index_keep.specs.Promises.{IsReadFor, FitsItsTable, HasOwn}
 use Rattle.pq_index_keep.specs.Refusals.{CanRefuse}
+use Rattle.pq_index_keep.specs.Rounds.{write_rounds}
+use Rattle.pq_index_keep.specs.Tested.{with_sets}
 use Rattle.pq_index_keep.specs.declared.plan.Planned.{Planned}
 use Rattle.pq_index_keep.specs.declared.plan.Planned.TheVariants as planned
 use Rattle.pq_index_keep.specs.declared.write.Write.{Write}
+use Rattle.pq_index_keep.specs.declared.write.Write.TheVariants as write
 use Rattle.pq_tallies.specs.Counters.{all_pairs, AreFewRows}
 use Rattle.pq_tallies.specs.Defined.{counters_in}
-use Rattle.pq_tallies.specs.Writes.{counter_changes, counted_effect}
-use Rattle.pq_counters.specs.Bounds.{all_moves, counter_reads}
-use Rattle.pq_counters.specs.Promises.{CanBeFull, IsCounterChange}
+use Rattle.pq_tallies.specs.Writes.{written_table, counter_changes, counted_effect}
+use Rattle.pq_counters.specs.Bounds.{all_moves, counter_reads, counter_rounds}
+use Rattle.pq_counters.specs.Promises.{CanBeFull, IsCounterChange, IfChanges, MovesCounts}
 
 -- the operations and entries of the tests of a write and of the reads of its counters
 abbrev pub whole_reads : Schema → Write → Bound
@@ -64,7 +67,25 @@ abbrev pub RefusesWhole : Schema → Write → Planned → Type 0
 RefusesWhole schema write (planned.Changes changes) = Unit {0}
 RefusesWhole schema write (planned.Refused why) = CanRefuseWhole schema write why
 
--- the changes of the row that is read in a content, where it is told, and behind them some of counters' pairs
+-- how often the store is asked: for the tests of the write, behind these changes, and once for all counters' groups
+abbrev pub whole_rounds : List Change → Schema → Write → ℕ
+whole_rounds pending schema write =
+    write_rounds pending schema.tables write + counter_rounds (counters_in schema) write
+
+-- the row that comes in the place of the one that was read
+abbrev pub coming : Write → Option (List Value) → Option (List Value)
+coming (write.Insert t row) old = Some row
+coming (write.Update t key sets conds) old = option_map (with_sets sets) old
+coming (write.Delete t key conds) old = None
+
+-- where the row was read from a content and changes, the counters' changes are by the numbers of that content
+abbrev pub CountsBy : Schema → Write → Option (List Value) → Option Content → Planned → Type 0
+CountsBy schema write old told planned = (own : List Change) → HasOwn schema.tables write old own
+    → IfSome told (λ content. IfChanges (λ changes. MovesCounts content (counters_in schema) (written_table write) old
+    (coming write old) (map change_of changes)) planned)
+
+-- the changes of the row that is read in a content, where it is told, and behind them those of counters' pairs: each by
+-- the number that this content has, whatever it stands for
 pub record HasWhole (schema : Schema) (told : Option Content) (write : Write) (changes : List Coded) : Type 0 where
   pub old : Option (List Value)
   pub rows : List Change
@@ -74,6 +95,8 @@ pub record HasWhole (schema : Schema) (told : Option Content) (write : Write) (c
   pub fits : FitsItsTable schema.tables write old
   pub own : HasOwn schema.tables write old rows
   pub counted : All IsCounterChange counts
+  pub moves : IfSome told (λ content. MovesCounts content (counters_in schema) (written_table write) old
+      (coming write old) (map change_of counts))
 
 abbrev pub ChangesWhole : Schema → Option Content → Write → Planned → Type 0
 ChangesWhole schema told write (planned.Changes changes) = HasWhole schema told write changes

@@ -4,6 +4,7 @@
 
 mod bound;
 mod groups;
+mod moved;
 mod plan;
 mod read;
 mod reading;

@@ -1,5 +1,5 @@
 //! The changes of counters' pairs that belong to a write.
-ghost use Rattle.std.specs.Prelude.{◌≡◌, List, Ok, Some, IfOk, IfErr, IfSome};
+ghost use Rattle.std.specs.Prelude.{◌≡◌, ◌≤◌, ◌+◌, None, List, Ok, Some, IfOk, IfErr, IfSome};
 ghost use Rattle.pq_base.specs.Values.{AllFit};
 ghost use Rattle.pq_schema.specs.Tables.{table_at};
 ghost use Rattle.pq_schema.specs.Valid.{IsValid};
@@ -14,10 +14,11 @@ ghost use Rattle.pq_index_keep.specs.Promises.{IsReadFor, FitsItsTable, IsNewFor
 ghost use Rattle.pq_index_keep.specs.Sound.{IsWrite, IsInsert, IsUpdate, IsDelete};
 ghost use Rattle.pq_tallies.specs.Counters.{HoldsCounted};
 ghost use Rattle.pq_tallies.specs.Defined.{counters_in};
-ghost use Rattle.pq_counters.specs.Bounds.{all_moves, counter_reads};
+ghost use Rattle.pq_counters.specs.Bounds.{all_moves, counter_reads, counter_rounds};
 ghost use Rattle.pq_counters.specs.Evidence.{IsStoredAt, ShowsCounted};
 ghost use Rattle.pq_counters.specs.Promises.{Counts, IsCountedWithin, RefusesAsFull};
 ghost use Rattle.pq_counters.specs.Steps.{ComesInPlace};
+ghost use Rattle.pq_counters.specs.Whole.{CountsBy};
 
 use crate::bound::all_moves;
 use crate::steps::plan_moves;
@@ -45,12 +46,16 @@ fn plan_insert<S: Store<L>, L: Ledger>(
     ensures uses { Uses S.content S.faults calls.old calls.new
         (all_moves (counters_in catalog.now) (Write.Insert table row.now))
         (all_moves (counters_in catalog.now) (Write.Insert table row.now)) }
+    ensures rounds { S.rounds calls.new.store.now ≤ S.rounds calls.old.store.now
+        + counter_rounds (counters_in catalog.now) (Write.Insert table row.now) }
     ensures cause { IfErr result (Fails (where_told (ShowsCounted catalog.now)) S.content
         S.faults calls.old calls.new) }
     ensures answered { IfErr result (IsAnswered (answers_of S.answers calls.old)) }
     ensures plan { IfOk result (IsCountedWithin
         (all_moves (counters_in catalog.now) (Write.Insert table row.now))) }
     ensures can { IfOk result (RefusesAsFull catalog.now) }
+    ensures counts { IfOk result (CountsBy catalog.now (Write.Insert table row.now) None
+        (seen S.content calls.old)) }
     ensures answer { IfOk result (λ planned. (rows made : Rows) (others : List Pair)
         → HoldsCounted (seen S.content calls.old) catalog.now rows others
         → effect catalog.now.tables rows (Write.Insert table row.now) ≡ Ok made
@@ -80,12 +85,16 @@ fn plan_removal<S: Store<L>, L: Ledger>(
     ensures uses { Uses S.content S.faults calls.old calls.new
         (all_moves (counters_in catalog.now) (Write.Delete table key.now conds.now))
         (all_moves (counters_in catalog.now) (Write.Delete table key.now conds.now)) }
+    ensures rounds { S.rounds calls.new.store.now ≤ S.rounds calls.old.store.now
+        + counter_rounds (counters_in catalog.now) (Write.Delete table key.now conds.now) }
     ensures cause { IfErr result (Fails (where_told (ShowsCounted catalog.now)) S.content
         S.faults calls.old calls.new) }
     ensures answered { IfErr result (IsAnswered (answers_of S.answers calls.old)) }
     ensures plan { IfOk result (IsCountedWithin
         (all_moves (counters_in catalog.now) (Write.Delete table key.now conds.now))) }
     ensures can { IfOk result (RefusesAsFull catalog.now) }
+    ensures counts { IfOk result (CountsBy catalog.now (Write.Delete table key.now conds.now) (Some old.now)
+        (seen S.content calls.old)) }
     ensures answer { IfOk result (λ planned. (rows made : Rows) (others : List Pair)
         → HoldsCounted (seen S.content calls.old) catalog.now rows others
         → Some old.now ≡ row_at catalog.now.tables rows table key.now
@@ -116,12 +125,16 @@ fn plan_delete<S: Store<L>, L: Ledger>(
     ensures uses { Uses S.content S.faults calls.old calls.new
         (all_moves (counters_in catalog.now) (Write.Delete table key.now conds.now))
         (all_moves (counters_in catalog.now) (Write.Delete table key.now conds.now)) }
+    ensures rounds { S.rounds calls.new.store.now ≤ S.rounds calls.old.store.now
+        + counter_rounds (counters_in catalog.now) (Write.Delete table key.now conds.now) }
     ensures cause { IfErr result (Fails (where_told (ShowsCounted catalog.now)) S.content
         S.faults calls.old calls.new) }
     ensures answered { IfErr result (IsAnswered (answers_of S.answers calls.old)) }
     ensures plan { IfOk result (IsCountedWithin
         (all_moves (counters_in catalog.now) (Write.Delete table key.now conds.now))) }
     ensures can { IfOk result (RefusesAsFull catalog.now) }
+    ensures counts { IfOk result (CountsBy catalog.now (Write.Delete table key.now conds.now) old.now
+        (seen S.content calls.old)) }
     ensures answer { IfOk result (λ planned. (rows made : Rows) (others : List Pair)
         → HoldsCounted (seen S.content calls.old) catalog.now rows others
         → effect catalog.now.tables rows (Write.Delete table key.now conds.now) ≡ Ok made
@@ -157,12 +170,16 @@ fn plan_change<S: Store<L>, L: Ledger>(
     ensures uses { Uses S.content S.faults calls.old calls.new
         (all_moves (counters_in catalog.now) (Write.Update table key.now sets.now conds.now))
         (all_moves (counters_in catalog.now) (Write.Update table key.now sets.now conds.now)) }
+    ensures rounds { S.rounds calls.new.store.now ≤ S.rounds calls.old.store.now
+        + counter_rounds (counters_in catalog.now) (Write.Update table key.now sets.now conds.now) }
     ensures cause { IfErr result (Fails (where_told (ShowsCounted catalog.now)) S.content
         S.faults calls.old calls.new) }
     ensures answered { IfErr result (IsAnswered (answers_of S.answers calls.old)) }
     ensures plan { IfOk result (IsCountedWithin
         (all_moves (counters_in catalog.now) (Write.Update table key.now sets.now conds.now))) }
     ensures can { IfOk result (RefusesAsFull catalog.now) }
+    ensures counts { IfOk result (CountsBy catalog.now (Write.Update table key.now sets.now conds.now) (Some old.now)
+        (seen S.content calls.old)) }
     ensures answer { IfOk result (λ planned. (rows made : Rows) (others : List Pair)
         → HoldsCounted (seen S.content calls.old) catalog.now rows others
         → Some old.now ≡ row_at catalog.now.tables rows table key.now
@@ -196,12 +213,16 @@ fn plan_update<S: Store<L>, L: Ledger>(
     ensures uses { Uses S.content S.faults calls.old calls.new
         (all_moves (counters_in catalog.now) (Write.Update table key.now sets.now conds.now))
         (all_moves (counters_in catalog.now) (Write.Update table key.now sets.now conds.now)) }
+    ensures rounds { S.rounds calls.new.store.now ≤ S.rounds calls.old.store.now
+        + counter_rounds (counters_in catalog.now) (Write.Update table key.now sets.now conds.now) }
     ensures cause { IfErr result (Fails (where_told (ShowsCounted catalog.now)) S.content
         S.faults calls.old calls.new) }
     ensures answered { IfErr result (IsAnswered (answers_of S.answers calls.old)) }
     ensures plan { IfOk result (IsCountedWithin
         (all_moves (counters_in catalog.now) (Write.Update table key.now sets.now conds.now))) }
     ensures can { IfOk result (RefusesAsFull catalog.now) }
+    ensures counts { IfOk result (CountsBy catalog.now (Write.Update table key.now sets.now conds.now) old.now
+        (seen S.content calls.old)) }
     ensures answer { IfOk result (λ planned. (rows made : Rows) (others : List Pair)
         → HoldsCounted (seen S.content calls.old) catalog.now rows others
         → effect catalog.now.tables rows (Write.Update table key.now sets.now conds.now) ≡ Ok made
@@ -236,11 +257,15 @@ pub(crate) fn plan_by<S: Store<L>, L: Ledger>(
     ensures uses { Uses S.content S.faults calls.old calls.new
         (all_moves (counters_in catalog.now) write.now)
         (all_moves (counters_in catalog.now) write.now) }
+    ensures rounds { S.rounds calls.new.store.now ≤ S.rounds calls.old.store.now
+        + counter_rounds (counters_in catalog.now) write.now }
     ensures cause { IfErr result (Fails (where_told (ShowsCounted catalog.now)) S.content
         S.faults calls.old calls.new) }
     ensures answered { IfErr result (IsAnswered (answers_of S.answers calls.old)) }
     ensures plan { IfOk result (IsCountedWithin (all_moves (counters_in catalog.now) write.now)) }
     ensures can { IfOk result (RefusesAsFull catalog.now) }
+    ensures counts { IfOk result (CountsBy catalog.now write.now old.now
+        (seen S.content calls.old)) }
     ensures answer { IfOk result (λ planned. (rows made : Rows) (others : List Pair)
         → HoldsCounted (seen S.content calls.old) catalog.now rows others
         → effect catalog.now.tables rows write.now ≡ Ok made
@@ -291,11 +316,15 @@ fn plan_any<S: Store<L>, L: Ledger>(
         (counter_reads (counters_in catalog.now) write.now) }
     ensures uses { Uses S.content S.faults calls.old calls.new (counter_reads (counters_in catalog.now) write.now)
         (counter_reads (counters_in catalog.now) write.now) }
+    ensures rounds { S.rounds calls.new.store.now ≤ S.rounds calls.old.store.now
+        + counter_rounds (counters_in catalog.now) write.now }
     ensures cause { IfErr result (Fails (where_told (ShowsCounted catalog.now)) S.content
         S.faults calls.old calls.new) }
     ensures answered { IfErr result (IsAnswered (answers_of S.answers calls.old)) }
     ensures plan { IfOk result (IsCountedWithin (all_moves (counters_in catalog.now) write.now)) }
     ensures can { IfOk result (RefusesAsFull catalog.now) }
+    ensures counts { IfOk result (CountsBy catalog.now write.now old.now
+        (seen S.content calls.old)) }
     ensures answer { IfOk result (λ planned. (rows made : Rows) (others : List Pair)
         → HoldsCounted (seen S.content calls.old) catalog.now rows others
         → effect catalog.now.tables rows write.now ≡ Ok made
@@ -332,6 +361,7 @@ pub(crate) fn plan_by_rows<S: Store<L>, L: Ledger>(
         (world (seen_content pending.now.changes (S.content store.old)) (S.faults store.old) allowance.old meter.old)
         (world (seen_content pending.now.changes (S.content store.new)) (S.faults store.new) allowance.new meter.new)
         (counter_reads (counters_in catalog.now) write.now) (counter_reads (counters_in catalog.now) write.now) }
+    ensures rounds { S.rounds store.new ≤ S.rounds store.old + counter_rounds (counters_in catalog.now) write.now }
     ensures cause { IfErr result (Explains (where_told (ShowsCounted catalog.now))
         (world (seen_content pending.now.changes (S.content store.old)) (S.faults store.old) allowance.old meter.old)
         (world (seen_content pending.now.changes (S.content store.new)) (S.faults store.new) allowance.new meter.new)) }
@@ -342,6 +372,8 @@ pub(crate) fn plan_by_rows<S: Store<L>, L: Ledger>(
     // At most as many changes as the counters add, each of a counter's key to a number, whatever the store tells.
     ensures plan { IfOk result (IsCountedWithin (all_moves (counters_in catalog.now) write.now)) }
     ensures can { IfOk result (RefusesAsFull catalog.now) }
+    ensures counts { IfOk result (CountsBy catalog.now write.now old.now
+        (seen_content pending.now.changes (S.content store.old))) }
     ensures answer { IfOk result (λ planned. (rows made : Rows) (others : List Pair)
         → HoldsCounted (seen_content pending.now.changes (S.content store.old)) catalog.now rows others
         → effect catalog.now.tables rows write.now ≡ Ok made

@@ -1,5 +1,5 @@
 //! The number that a counter has for a group.
-ghost use Rattle.std.specs.Prelude.{◌≡◌, ◌≤◌, List, IfOk, IfErr, IfSome};
+ghost use Rattle.std.specs.Prelude.{◌≡◌, ◌≤◌, ◌+◌, List, IfOk, IfErr, IfSome};
 ghost use Rattle.std.specs.FinMap.{get as value_at};
 ghost use Rattle.pq_schema.specs.Counters.{IsCounterNumber};
 ghost use Rattle.pq_content.specs.Pairs.{Pair};
@@ -34,6 +34,7 @@ fn group_behind<S: Store<L>, L: Ledger>(
         (world (seen_content pending.now.changes (S.content store.old)) (S.faults store.old) allowance.old meter.old)
         (world (seen_content pending.now.changes (S.content store.new)) (S.faults store.new) allowance.new meter.new)
         1 1 }
+    ensures rounds { S.rounds store.new ≤ S.rounds store.old + 1 }
     ensures cause { IfErr result (Explains (IsNoCountAt at)
         (world (seen_content pending.now.changes (S.content store.old)) (S.faults store.old) allowance.old meter.old)
         (world (seen_content pending.now.changes (S.content store.new)) (S.faults store.new) allowance.new meter.new)) }
@@ -62,6 +63,7 @@ fn stored_group<S: Store<L>, L: Ledger>(
     requires share { Affords allowance.old 1 1 }
     ensures reads { Reads (world (S.content store.old) (S.faults store.old) allowance.old meter.old)
         (world (S.content store.new) (S.faults store.new) allowance.new meter.new) 1 1 }
+    ensures rounds { S.rounds store.new ≤ S.rounds store.old + 1 }
     ensures cause { IfErr result (Explains (IsNoCountAt at)
         (world (S.content store.old) (S.faults store.old) allowance.old meter.old)
         (world (S.content store.new) (S.faults store.new) allowance.new meter.new)) }
@@ -93,6 +95,7 @@ pub fn read_counter<S: Store<L>, L: Ledger>(
     // Over every told store it is the number at the group's key, whatever stands at all others.
     ensures stored { IfOk result (λ n. IfSome (S.content store.old)
         (λ content. IsCounted (value_at content (key_of_group number values.now)) n)) }
+    ensures rounds { S.rounds store.new ≤ S.rounds store.old + 1 }
     ensures cause { IfErr result (Explains
         (where_told (IsNoCount catalog.now.tables (counter_numbered catalog.now number)))
         (world (S.content store.old) (S.faults store.old) allowance.old meter.old)

@@ -1,5 +1,5 @@
 //! The whole plan of a write: what it changes of rows and entries, and behind that what it changes of counters' pairs.
-ghost use Rattle.std.specs.Prelude.{◌≡◌, ◌≤◌, ◌++◌, All, List, map, Ok, IfOk, IfErr, IfSome};
+ghost use Rattle.std.specs.Prelude.{◌≡◌, ◌≤◌, ◌+◌, ◌++◌, All, List, map, Ok, IfOk, IfErr, IfSome};
 ghost use Rattle.pq_content.specs.Pairs.{Pair};
 ghost use Rattle.pq_content.specs.Standing.{change_of};
 ghost use Rattle.pq_content.specs.Tables.{Rows};
@@ -12,10 +12,10 @@ ghost use Rattle.pq_index_keep.specs.Promises.{ArePlanned, MakesRows, IsReadFor,
 ghost use Rattle.pq_index_keep.specs.Sound.{IsWrite};
 ghost use Rattle.pq_tallies.specs.Counters.{counter_pairs, HoldsCounted};
 ghost use Rattle.pq_tallies.specs.Defined.{counters_in};
-ghost use Rattle.pq_counters.specs.Bounds.{counter_reads};
+ghost use Rattle.pq_counters.specs.Bounds.{counter_reads, counter_rounds};
 ghost use Rattle.pq_counters.specs.Evidence.{ShowsCounted};
 ghost use Rattle.pq_counters.specs.Promises.{RefusesAsFull};
-ghost use Rattle.pq_counters.specs.Whole.{reads_behind, whole_changes, IsWholeWithin, ChangesWhole, RefusesWhole, PlansWhole};
+ghost use Rattle.pq_counters.specs.Whole.{reads_behind, whole_changes, whole_rounds, IsWholeWithin, ChangesWhole, RefusesWhole, PlansWhole};
 
 use crate::plan::plan_by_rows;
 use pq_base::{List, NoMem, Row};
@@ -66,6 +66,7 @@ fn plan_more<S: Store<L>, L: Ledger>(
         (world (seen_content pending.now.changes (S.content store.old)) (S.faults store.old) allowance.old meter.old)
         (world (seen_content pending.now.changes (S.content store.new)) (S.faults store.new) allowance.new meter.new)
         (counter_reads (counters_in catalog.now) write.now) (counter_reads (counters_in catalog.now) write.now) }
+    ensures rounds { S.rounds store.new ≤ S.rounds store.old + counter_rounds (counters_in catalog.now) write.now }
     ensures cause { IfErr result (Explains (where_told (ShowsCounted catalog.now))
         (world (seen_content pending.now.changes (S.content store.old)) (S.faults store.old) allowance.old meter.old)
         (world (seen_content pending.now.changes (S.content store.new)) (S.faults store.new) allowance.new meter.new)) }
@@ -119,6 +120,7 @@ pub fn plan_whole<S: Store<L>, L: Ledger>(
         (world (seen_content pending.now.changes (S.content store.new)) (S.faults store.new) allowance.new meter.new)
         (reads_behind pending.now.removers catalog.now write.now).ops
         (reads_behind pending.now.removers catalog.now write.now).entries }
+    ensures rounds { S.rounds store.new ≤ S.rounds store.old + whole_rounds pending.now.changes catalog.now write.now }
     ensures cause { IfErr result (Explains (where_told (ShowsCounted catalog.now))
         (world (seen_content pending.now.changes (S.content store.old)) (S.faults store.old) allowance.old meter.old)
         (world (seen_content pending.now.changes (S.content store.new)) (S.faults store.new) allowance.new meter.new)) }
@@ -127,7 +129,7 @@ pub fn plan_whole<S: Store<L>, L: Ledger>(
         → HoldsCounted (seen_content pending.now.changes (S.content store.old)) catalog.now rows others
         → IsUndamaged error) }
     // Over every store, told or not: the changes are some that an intent can hold, those of the row that was read and
-    // behind them numbers of counters, short, and at most one removal of a sequence where the write removes pairs; and
+    // behind them the counters' numbers, one more or one less than what was read, short, and at most one removal of a sequence where the write removes pairs; and
     // a refusal is one that the write can have.
     ensures plan { IfOk result (IsWholeWithin (whole_changes catalog.now write.now)) }
     ensures own { IfOk result

@@ -26,7 +26,8 @@ use Rattle.pq_store.specs.Breaks.{IfDamaged, IsPresent, IsUndamaged}
 use Rattle.pq_store.specs.Content.{Content, pairs_within}
 use Rattle.pq_store.specs.Counts.{Counts, charged_counts}
 use Rattle.pq_store.specs.declared.damage.Broke.{Broke}
-use Rattle.pq_define.specs.Calls.{MayPut, PutsNew}
+use Rattle.pq_reports.specs.Putting.{MayPut, PutsNew}
+use Rattle.pq_reports.specs.Making.{IsWithinAsked, MakesAction}
 use Rattle.pq_reports.specs.Matches.{Matches}
 use Rattle.pq_catalog.specs.Model.{Model}
 use Rattle.pq_reports.specs.Promise.{BrokenStatement, DoneStatement}
@@ -37,7 +38,7 @@ use Rattle.pq_catalog.proofs.Counted.{rows_found}
 use Rattle.pq_define.proofs.Defining.{Defines, define_broken, define_done, one_more}
 use Rattle.pq_catalog.proofs.Definitions.{few_counter, next_absent, put_counter}
 use Rattle.pq_catalog.proofs.Made.{small_of}
-use Rattle.pq_reports.proofs.Promises.{broken_kept, sound_shown, within_step}
+use Rattle.pq_reports.proofs.Promises.{broken_kept, of_each, sound_shown, within_step}
 
 -- ---- the definition
 
@@ -56,7 +57,7 @@ pub counted_between : (t n : ℕ) (low high : List ℕ) (old : Option Content) �
 counted_between t n low high None first past is = tt
 counted_between t n low high (Some c) first past is = is ∙ (λ i. min 1 (length (pairs_within c (first i) (past i))))
 
-no_rows : (rows : List (List Value)) → min 1 (length rows) ≡ 0 → rows ≡ []
+no_rows : {A : Type 0} (rows : List A) → min 1 (length rows) ≡ 0 → rows ≡ []
 no_rows [] none = refl
 no_rows (row ∷ rows) none = absurd (omega (arith, none))
 
@@ -149,6 +150,9 @@ module _ (number : ℕ) (def : CounterDef) where
           unread = tt;
           can = refl;
           reads = λ none. absurd none;
+          tells = λ not. absurd (not tt);
+          kind = λ not. absurd (not tt);
+          bare = λ _. refl;
         }
 
     -- nothing was written
@@ -156,7 +160,13 @@ module _ (number : ℕ) (def : CounterDef) where
         → BrokenStatement number (Ok (action.Counts def)) old now schema before after error
     counting_broke old now before after error same sound within =
         broken_kept number (Ok (action.Counts def)) old now schema before after error same (λ m s. sound) within
-        (within_step number (action.Counts def) old schema (bound 2 1) before after refl within) (sound_shown old schema error sound)
+        (within_step number (action.Counts def) old schema (bound 2 1) before after refl within) (of_each old (λ content. IsWithinAsked (Ok (action.Counts def)) content before after) (λ content. tt)) (sound_shown old schema error sound)
+
+    -- no row was counted in the content
+    counted_makes : (old now : Option Content) (n : ℕ) → IsCountOf old n → n ≡ 0
+        → IfSome old (λ content. PutsNew true (last_key next) (last_value next) (Some content) now → MakesAction schema (action.Counts def) content now (counter_report number))
+    counted_makes None now n counted zero = tt
+    counted_makes (Some content) now n counted zero = λ puts. (no_rows (row_pairs_in (counted_table schema def) content) (sym counted ∙ zero), puts)
 
     -- the definition was written behind the count
     pub counter_done : (old mid now : Option Content) (before between after : Counts) (n : ℕ) → IsCountOf old n → n ≡ 0 → mid ≡ old → Takes 1 n before between
@@ -168,6 +178,7 @@ module _ (number : ℕ) (def : CounterDef) where
         define_done (bound 2 1) number [] (action.Counts def) old now schema next (counter_defines old n counted zero) refl (λ reads. reads) refl (λ report. tt)
         (used_numbers 2 0) before after (lit≤ tt) (lit≤ tt) (omega (arith, ops, takes.ops_are)) (omega (arith, entries, takes.entries_are, zero))
         (subst (λ (o : Option Content). PutsNew true (last_key next) (last_value next) o now) same puts)
+        (counted_makes old now n counted zero) (refl, refl)
 
     -- or it wasn't, or it may be
     pub counter_broke : (old mid now : Option Content) (before between after : Counts) (n : ℕ) (error : Broke) → IsCountOf old n → n ≡ 0 → mid ≡ old → Takes 1 n before between
@@ -183,4 +194,4 @@ module _ (number : ℕ) (def : CounterDef) where
         (record { ops = omega (arith, takes.ops_are, few_ops); entries = omega (arith, takes.entries_are, zero, few_entries) })
         (one_more schema.definitions (OfCounter (counter_of_def schema def)))
         (subst (λ (o : Option Content). IfSome o (λ pairs. IfDamaged (IsPresent (last_key next) pairs) error)) same shows)
-        (subst (λ (o : Option Content). IfDamagedSame o now error) same kept)
+        (subst (λ (o : Option Content). IfDamagedSame o now error) same kept) (λ content may. may) (λ content. tt)

@@ -1,6 +1,6 @@
 -- What a definition makes of what a content stands for.
 use Rattle.std.proofs.Common.{lit≤, ◌≡◌, ℕ, ◌+◌, ◌-◌, get_or, ◌<◌, ◌≤◌, Bool, true, false, true≢false, List, [], ◌∷◌, ◌++◌, length, Option, Some, None, Result, Ok, Err, refl, sym, ap, ◌∙◌, subst, arith, inl, inr}
-use Rattle.std.specs.Prelude.{is_none, IfSome, IfOk, IfErr, OnOk, OnErr}
+use Rattle.std.specs.Prelude.{is_none, IfSome, IfOk, IfErr, MatchResult, OnOk, OnErr}
 use Rattle.std.proofs.Math.Seq.{get_or-append_seam}
 use Rattle.std.specs.FinMap.{get, insert}
 use Rattle.std.proofs.lemmas.List.{length-append}
@@ -32,8 +32,9 @@ use Rattle.pq_schema.specs.Names.{IsTableDef, IsAlterDef}
 use Rattle.pq_schema.specs.Valid.{IsValid, IsAddition, IsDefined}
 use Rattle.pq_schema.specs.Valid.IsValid.{then_table, then_query, then_column}
 use Rattle.pq_schema.proofs.Valid.{column_parts}
-use Rattle.pq_define.specs.Calls.{PutsNew, MayPut}
+use Rattle.pq_reports.specs.Putting.{PutsNew, MayPut}
 use Rattle.pq_store.specs.Breaks.{IfDamaged, IsPresent, IsUndamaged}
+use Rattle.pq_reports.specs.Making.{IsWithinAsked, LeavesAction, MakesAction}
 use Rattle.pq_reports.specs.Matches.{Matches}
 use Rattle.pq_catalog.specs.Model.{Model}
 use Rattle.pq_print.specs.declared.report.Report.{Report}
@@ -43,6 +44,7 @@ use Rattle.pq_intent.specs.Spending.{TakesAtMost}
 use Rattle.pq_reports.specs.Promise.{OnlyReads, DoneStatement as Promised, BrokenStatement, LacksMemory, Promises, IsBound, IsWithinFixed}
 use Rattle.pq_reports.specs.Refusing.{IsUnread}
 use Rattle.pq_reports.specs.Reports.{define_report, used_numbers}
+use Rattle.pq_reports.specs.Telling.{TellsAction}
 use Rattle.pq_catalog.specs.Stands.{HoldsModel, Stands, content_of, value_at, last_key, last_value}
 use Rattle.pq_builds.specs.Bounds.{bound}
 use Rattle.pq_statement.specs.Actions.{Action, Creates, Adds, Prepares, action_bound, action_schema, action_from}
@@ -54,7 +56,7 @@ use Rattle.pq_tallies.specs.Defined.{counters_in}
 use Rattle.pq_catalog.proofs.Definitions.{few_column, few_query, few_table, keeps_column, next_absent, put_column, put_table, put_query}
 use Rattle.pq_catalog.proofs.Standing.{settled_opens}
 use Rattle.pq_catalog.proofs.Made.{made_of, made_room, small_of}
-use Rattle.pq_reports.proofs.Promises.{damaged_kept, shown_for, still_for, within_step}
+use Rattle.pq_reports.proofs.Promises.{damaged_kept, of_each, shown_for, still_for, within_step}
 
 -- one write makes the step, which leads to these definitions and has this bound
 pub record Defines (most : Bound) (m : Model) (next : Schema) (number : ℕ) (lines : List Line) (made : Step) : Type 0 where
@@ -132,6 +134,15 @@ present_shown (Some content) schema broke.Failed shows = tt
 present_shown (Some content) schema broke.NoMem shows = tt
 present_shown (Some content) schema (broke.Damaged damage) shows = inr (inr (inr shows))
 
+-- what a put makes of the content that is told, and leaves of it
+told_made : (old now : Option Content) (key value : List ℕ) (makes : Content → Type 0) → PutsNew true key value old now → IfSome old (λ content. PutsNew true key value (Some content) now → makes content) → IfSome old makes
+told_made None now key value makes puts each = tt
+told_made (Some content) now key value makes puts each = each puts
+
+told_left : (old now : Option Content) (key value : List ℕ) (leaves : Content → Type 0) → MayPut key value old now → ((content : Content) → MayPut key value (Some content) now → leaves content) → IfSome old leaves
+told_left None now key value leaves may each = tt
+told_left (Some content) now key value leaves may each = each content may
+
 module _ (most : Bound) (number : ℕ) (lines : List Line) (action : Action) (old now : Option Content) (schema next : Schema)
     (defines : (m : Model) → Stands old schema m → Defines most m next number lines (action_step m number action))
     (one : action_bound schema action ≡ Some most) (writes : OnlyReads (Ok action) → ⊥) (behind : next ≡ action_schema schema action) (other : (report : Report) → IsUnread number (Ok action) report) where
@@ -145,8 +156,9 @@ module _ (most : Bound) (number : ℕ) (lines : List Line) (action : Action) (ol
 
   pub define_done : (spent : Used) (before after : Counts) → spent.ops ≤ most.ops → spent.entries ≤ most.entries
       → after.ops ≡ before.ops + spent.ops → after.entries ≡ before.entries + spent.entries → PutsNew true (last_key next) (last_value next) old now
+      → IfSome old (λ content. PutsNew true (last_key next) (last_value next) (Some content) now → MakesAction schema action content now (report_with spent)) → TellsAction schema action (report_with spent)
       → Promised number (Ok action) old now schema next before after (report_with spent)
-  define_done spent before after few_ops few_entries ops entries puts = record {
+  define_done spent before after few_ops few_entries ops entries puts makes kind = record {
     matches = λ m s. subst (λ (r : Report). Matches r (report_with spent)) (sym (defines m s).report) (record { same = refl; ops = few_ops; entries = few_entries });
     made = λ m s.
         let p = subst (λ o. PutsNew true (last_key next) (last_value next) o now) s.settled.told puts in
@@ -162,14 +174,18 @@ module _ (most : Bound) (number : ℕ) (lines : List Line) (action : Action) (ol
     unread = other (report_with spent);
     can = tt;
     reads = λ reads. absurd (writes reads);
+    tells = λ _. told_made old now (last_key next) (last_value next) (λ content. MakesAction schema action content now (report_with spent)) puts makes;
+    kind = λ _. kind;
+    bare = λ refusal. absurd refusal;
   }
 
   -- the key is absent, so that no damage is found
   pub define_broken : (before after : Counts) (broke : Broke) → LacksMemory (Ok action) old now broke → MayPut (last_key next) (last_value next) old now
       → IfSome old (λ pairs. get pairs (last_key next) ≡ None → IsUndamaged broke) → TakesAtMost most before after
       → length schema.definitions + 1 ≡ length next.definitions → IfSome old (λ pairs. IfDamaged (IsPresent (last_key next) pairs) broke)
-      → IfDamagedSame old now broke → BrokenStatement number (Ok action) old now schema before after broke
-  define_broken before after broke lacks may sound within more shows same = record {
+      → IfDamagedSame old now broke → ((content : Content) → MayPut (last_key next) (last_value next) (Some content) now → LeavesAction schema action content now)
+      → ((content : Content) → IsWithinAsked (Ok action) content before after) → BrokenStatement number (Ok action) old now schema before after broke
+  define_broken before after broke lacks may sound within more shows same leaves rows = record {
     stopped = λ m s. elim (subst (λ o. MayPut (last_key next) (last_value next) o now) s.settled.told may) [
       | inl same ↦ inl (settled_opens (record { valid = s.settled.valid; keeps = s.settled.keeps; few = s.settled.few; told = same }))
       | inr put ↦ inr (settled_opens (added m s put.1))
@@ -178,6 +194,8 @@ module _ (most : Bound) (number : ℕ) (lines : List Line) (action : Action) (ol
     within = subst (λ (b : Option Bound). IsWithinFixed b before after) (sym one) within;
     within_own = λ m s. within_step number action old schema most before after one within m s;
     kept = damaged_kept schema (Ok action) old now broke same;
+    left = told_left old now (last_key next) (last_value next) (λ content. LeavesAction schema action content now) may leaves;
+    within_rows = of_each old (λ content. IsWithinAsked (Ok action) content before after) rows;
     memory = λ m s. lacks;
     reads = λ reads. absurd (writes reads);
     shown = shown_for (Ok action) old schema broke (here more shows);
@@ -186,6 +204,16 @@ module _ (most : Bound) (number : ℕ) (lines : List Line) (action : Action) (ol
     where
       here : length schema.definitions + 1 ≡ length next.definitions → IfSome old (λ pairs. IfDamaged (IsPresent (last_key next) pairs) broke) → IfSome old (λ content. TellsEvidence schema content broke)
       here more shows = present_shown old schema broke (subst (λ n. IfSome old (λ pairs. IfDamaged (IsPresent (catalog_key n) pairs) broke)) (sym more) shows)
+
+-- ---- how often the store is asked
+
+-- what is refused before any call doesn't ask
+pub none_asked : {T E : Type 0} (most : ℕ) (made : Result T E) (before after : ℕ) → after ≤ before → MatchResult made (λ found. after ≤ before + most) (λ why. after ≤ before)
+none_asked most (Ok found) before after none = omega (arith, none)
+none_asked most (Err why) before after none = none
+
+pub some_asked : {T E : Type 0} (most : ℕ) (made : Result T E) (found : T) (before after : ℕ) → made ≡ Ok found → after ≤ before + most → MatchResult made (λ found. after ≤ before + most) (λ why. after ≤ before)
+some_asked most made found before after is few = rw is few
 
 -- ---- tables
 
@@ -217,12 +245,16 @@ IsWritten old now next number lines before after result =
 
 written_as : (action : Action) (old now : Option Content) (schema next : Schema) (number : ℕ) (lines : List Line) (before after : Counts) (result : Result (Schema × Report) Broke)
     → ((m : Model) → Stands old schema m → Defines (bound 1 0) m next number lines (action_step m number action)) → action_bound schema action ≡ Some (bound 1 0) → (OnlyReads (Ok action) → ⊥) → ((broke : Broke) → LacksMemory (Ok action) old now broke) → next ≡ action_schema schema action → ((report : Report) → IsUnread number (Ok action) report)
-    → length schema.definitions + 1 ≡ length next.definitions → IsWritten old now next number lines before after result → Promises number (Ok action) old now schema before after result
-written_as action old now schema next number lines before after (Ok made) defines one writes lacks behind other more h =
+    → length schema.definitions + 1 ≡ length next.definitions
+    → ((content : Content) → PutsNew true (last_key next) (last_value next) (Some content) now → MakesAction schema action content now (define_report number lines)) → TellsAction schema action (define_report number lines)
+    → ((content : Content) → MayPut (last_key next) (last_value next) (Some content) now → LeavesAction schema action content now) → ((content : Content) → IsWithinAsked (Ok action) content before after)
+    → IsWritten old now next number lines before after result → Promises number (Ok action) old now schema before after result
+written_as action old now schema next number lines before after (Ok made) defines one writes lacks behind other more makes kind leaves rows h =
     rw (h.0.0, h.0.1, h.4)
-    (define_done (bound 1 0) number lines action old now schema next defines one writes behind other (used_numbers 1 0) before (charged_counts before 0) (lit≤ tt) (lit≤ tt) refl refl h.1)
-written_as action old now schema next number lines before after (Err broke) defines one writes lacks behind other more h =
-    define_broken (bound 1 0) number lines action old now schema next defines one writes behind other before after broke (lacks broke) h.2 h.3 h.5 more h.6 h.7
+    (define_done (bound 1 0) number lines action old now schema next defines one writes behind other (used_numbers 1 0) before (charged_counts before 0) (lit≤ tt) (lit≤ tt) refl refl h.1
+    (of_each old (λ content. PutsNew true (last_key next) (last_value next) (Some content) now → MakesAction schema action content now (define_report number lines)) makes) kind)
+written_as action old now schema next number lines before after (Err broke) defines one writes lacks behind other more makes kind leaves rows h =
+    define_broken (bound 1 0) number lines action old now schema next defines one writes behind other before after broke (lacks broke) h.2 h.3 h.5 more h.6 h.7 leaves rows
 
 pub table_written : (old now : Option Content) (schema planned : Schema) (number : ℕ) (def : TableDef) → IsTableDef def → (t : ℕ) (before after : Counts) (result : Result (Schema × Report) Broke)
     → Extends schema def planned (Ok t) → IsWritten old now planned number (table_lines (table_at planned.tables t)) before after result
@@ -234,7 +266,7 @@ table_written old now schema planned number def is_def t before after result e a
     let lined = subst (λ (x : Table). IsWritten old now next number (table_lines x) before after result) (last_table schema.tables table t e.3) there in
     subst (λ (r : Result Table Refusal). Promises number (action_from Creates r) old now schema before after result) (sym e.1)
     (written_as (Creates table) old now schema next number (table_lines table) before after result (table_defines old schema number def table is_def e.1)
-    refl (λ reads. reads) (λ broke. tt) refl (λ report. tt) (one_more schema.definitions (OfTable (length schema.tables + 1) (length table.columns) (length table.indexes))) lined)
+    refl (λ reads. reads) (λ broke. tt) refl (λ report. tt) (one_more schema.definitions (OfTable (length schema.tables + 1) (length table.columns) (length table.indexes))) (λ content puts. puts) (refl, refl) (λ content may. may) (λ content. tt) lined)
 
 -- ---- columns
 
@@ -255,6 +287,7 @@ column_written old now schema planned number def is_def n before after result ad
     subst (λ (r : Result Schema Refusal). Promises number (action_from (λ next. Adds def) r) old now schema before after result) (sym made)
     (written_as (Adds def) old now schema next number [] before after result (column_defines old schema number def is)
     refl (λ reads. reads) (λ broke. tt) refl (λ report. tt) (one_more schema.definitions (OfColumn (altered_table schema def) (length (table_at schema.tables (altered_table schema def)).columns)))
+    (λ content puts. puts) (refl, refl) (λ content may. may) (λ content. tt)
     (subst (λ (s : Schema). IsWritten old now s number [] before after result) adds.added all))
 
 -- ---- queries
@@ -277,4 +310,5 @@ module _ (schema : Schema) (number : ℕ) (query : Query) (best : Candidate) whe
   query_written old now before after result lines is lined all =
       written_as (Prepares plain) old now schema (with_query schema query None) number (query_lines schema.tables plain) before after result (query_defines old is)
       refl (λ reads. reads) (λ broke. tt) refl (λ report. tt) (one_more schema.definitions (OfQuery query None))
+      (λ content puts. puts) (refl, refl) (λ content may. may) (λ content. tt)
       (subst (λ (ls : List Line). IsWritten old now (with_query schema query None) number ls before after result) lined all)

@@ -1,5 +1,5 @@
 //! ALTER TABLE: a column's definition is one write of its pair, and no row is touched.
-ghost use Rattle.std.specs.Prelude.{IfErr};
+ghost use Rattle.std.specs.Prelude.{◌≤◌, ◌+◌, IfErr, MatchResult};
 ghost use Rattle.pq_schema.specs.Definitions.{new_column};
 ghost use Rattle.pq_schema.specs.Names.{IsAlterDef};
 ghost use Rattle.pq_store.specs.Breaks.{IsAnswered};
@@ -29,6 +29,8 @@ pub fn add_column<S: Store<L>, L: Ledger>(
     requires { IsAlterDef def }
     ensures step { Promises number (action_from (λ next. Adds def) (new_column planned def)) (S.content store.old)
         (S.content store.new) planned meter.old meter.new result }
+    ensures rounds { MatchResult (new_column planned def) (λ next. S.rounds store.new ≤ S.rounds store.old + 1)
+        (λ why. S.rounds store.new ≤ S.rounds store.old) }
     ensures cause { HasBrokeCause (S.faults store.old) (S.faults store.new) result }
     ensures answered { IfErr result (IsAnswered S.answers) }
 {

@@ -1,5 +1,5 @@
 //! CREATE COUNTER: a counter is over a table without rows, and its definition comes behind the others.
-ghost use Rattle.std.specs.Prelude.{◌≡◌, ◌≤◌, ◌+◌, Ok, length, min, IfErr, IfOk, IfSome, OnErr};
+ghost use Rattle.std.specs.Prelude.{◌≡◌, ◌≤◌, ◌+◌, Ok, length, min, IfErr, IfOk, IfSome, MatchResult, OnErr};
 ghost use Rattle.pq_base.specs.Answers.{Passes};
 ghost use Rattle.pq_base.specs.declared.refusal.Refusal.TheVariants as Refusal;
 ghost use Rattle.pq_builds.specs.Filling.{row_pairs_in};
@@ -37,6 +37,7 @@ fn count_one<S: Store<L>, L: Ledger>(
     ensures takes { IfOk result (λ n. Takes 1 n meter.old meter.new) }
     ensures few_ops { meter.new.ops ≤ meter.old.ops + 1 }
     ensures none { OnErr result (meter.new.entries ≡ meter.old.entries) }
+    ensures rounds { S.rounds store.new ≤ S.rounds store.old + 1 }
     ensures cause { HasBrokeCause (S.faults store.old) (S.faults store.new) result }
     ensures answered { IfErr result (IsAnswered S.answers) }
 {
@@ -76,6 +77,8 @@ pub fn create_counter<S: Store<L>, L: Ledger>(
     requires { IsCounterDef def }
     ensures step { Promises number (action_from (λ next. Counts def) (new_counter planned def))
         (S.content store.old) (S.content store.new) planned meter.old meter.new result }
+    ensures rounds { MatchResult (new_counter planned def) (λ next. S.rounds store.new ≤ S.rounds store.old + 2)
+        (λ why. S.rounds store.new ≤ S.rounds store.old) }
     ensures cause { HasBrokeCause (S.faults store.old) (S.faults store.new) result }
     ensures answered { IfErr result (IsAnswered S.answers) }
 {
@@ -101,6 +104,7 @@ fn count_over<S: Store<L>, L: Ledger>(
     requires table { counted_table planned def ≡ table }
     ensures step { Promises number (Ok (Counts def)) (S.content store.old) (S.content store.new) planned
         meter.old meter.new result }
+    ensures rounds { S.rounds store.new ≤ S.rounds store.old + 2 }
     ensures cause { HasBrokeCause (S.faults store.old) (S.faults store.new) result }
     ensures answered { IfErr result (IsAnswered S.answers) }
 {

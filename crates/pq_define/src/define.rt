@@ -1,9 +1,9 @@
 //! Definitions: each is one write of its pair, whose key has to be absent.
-ghost use Rattle.std.specs.Prelude.{◌≡◌, ◌≤◌, true, None, Ok, length, IfOk, IfErr, IfSome, OnOk, OnErr};
+ghost use Rattle.std.specs.Prelude.{◌≡◌, ◌≤◌, ◌+◌, MatchResult, true, None, Ok, length, IfOk, IfErr, IfSome, OnOk, OnErr};
 ghost use Rattle.std.specs.FinMap.{get as value_at_key};
 ghost use Rattle.pq_store.specs.Content.{HasBrokeCause};
 ghost use Rattle.pq_store.specs.Counts.{charged_counts};
-ghost use Rattle.pq_define.specs.Calls.{PutsNew, MayPut};
+ghost use Rattle.pq_reports.specs.Putting.{PutsNew, MayPut};
 ghost use Rattle.pq_store.specs.Breaks.{IfDamaged, IsPresent, IsUndamaged, IsAnswered};
 ghost use Rattle.pq_intent.specs.Changing.{IfDamagedSame};
 ghost use Rattle.pq_intent.specs.Spending.{TakesAtMost};
@@ -72,6 +72,7 @@ fn put_absent<S: Store<L>, L: Ledger>(
     ensures shown { IfErr result (λ broke. IfSome (S.content store.old)
         (λ pairs. IfDamaged (IsPresent pair.key pairs) broke)) }
     ensures kept { IfErr result (IfDamagedSame (S.content store.old) (S.content store.new)) }
+    ensures rounds { S.rounds store.new ≤ S.rounds store.old + 1 }
     ensures cause { HasBrokeCause (S.faults store.old) (S.faults store.new) result }
     ensures answered { IfErr result (IsAnswered S.answers) }
 {
@@ -108,6 +109,7 @@ pub(crate) fn put_last<S: Store<L>, L: Ledger>(
     ensures shown { IfErr result (λ broke. IfSome (S.content store.old)
         (λ pairs. IfDamaged (IsPresent (last_key planned.now) pairs) broke)) }
     ensures kept { IfErr result (IfDamagedSame (S.content store.old) (S.content store.new)) }
+    ensures rounds { S.rounds store.new ≤ S.rounds store.old + 1 }
     ensures cause { HasBrokeCause (S.faults store.old) (S.faults store.new) result }
     ensures answered { IfErr result (IsAnswered S.answers) }
 {
@@ -137,6 +139,7 @@ pub(crate) fn write_last<S: Store<L>, L: Ledger>(
     ensures shown { IfErr result (λ broke. IfSome (S.content store.old)
         (λ pairs. IfDamaged (IsPresent (last_key planned) pairs) broke)) }
     ensures kept { IfErr result (IfDamagedSame (S.content store.old) (S.content store.new)) }
+    ensures rounds { S.rounds store.new ≤ S.rounds store.old + 1 }
     ensures cause { HasBrokeCause (S.faults store.old) (S.faults store.new) result }
     ensures answered { IfErr result (IsAnswered S.answers) }
 {
@@ -156,6 +159,8 @@ pub fn create<S: Store<L>, L: Ledger>(
     requires { IsTableDef def }
     ensures step { Promises number (action_from Creates (new_table planned def)) (S.content store.old)
         (S.content store.new) planned meter.old meter.new result }
+    ensures rounds { MatchResult (new_table planned def) (λ table. S.rounds store.new ≤ S.rounds store.old + 1)
+        (λ why. S.rounds store.new ≤ S.rounds store.old) }
     ensures cause { HasBrokeCause (S.faults store.old) (S.faults store.new) result }
     ensures answered { IfErr result (IsAnswered S.answers) }
 {
@@ -185,6 +190,7 @@ pub fn write_query<S: Store<L>, L: Ledger>(
     ensures step { (best : Candidate) → lines ≡ query_lines planned.tables (planned_definition query best None)
         → Promises number (Ok (Prepares (planned_definition query best None))) (S.content store.old)
         (S.content store.new) planned meter.old meter.new result }
+    ensures rounds { S.rounds store.new ≤ S.rounds store.old + 1 }
     ensures cause { HasBrokeCause (S.faults store.old) (S.faults store.new) result }
     ensures answered { IfErr result (IsAnswered S.answers) }
 {

@@ -1,5 +1,5 @@
 //! The rows that entries name.
-ghost use Rattle.std.specs.Prelude.{◌≡◌, List, Some, All, map, length, IfOk, IfErr, IfSome, IsSome};
+ghost use Rattle.std.specs.Prelude.{◌≡◌, ◌≤◌, ◌+◌, List, Some, All, map, length, IfOk, IfErr, IfSome, IsSome};
 ghost use Rattle.std.specs.List.{AllByRecursion};
 ghost use Rattle.pq_base.specs.Members.{In};
 ghost use Rattle.pq_base.specs.Values.{AllFit};
@@ -45,6 +45,7 @@ pub fn named_row<S: Store<L>, L: Ledger>(
     ensures uses { Uses S.content S.faults calls.old calls.new 1 1 }
     ensures cause { IfErr result (Fails (where_told (ShowsRead catalog.now.tables)) S.content S.faults calls.old
         calls.new) }
+    ensures rounds { S.rounds calls.new.store.now ≤ S.rounds calls.old.store.now + 1 }
     ensures answered { IfErr result (IsAnswered S.answers) }
     ensures fits { IfOk result (AllFit (types_of (table_at catalog.now.tables number))) }
     // Over any content that is told, the row that stands at the key that the entry names.
@@ -156,6 +157,7 @@ pub fn named_rows<S: Store<L>, L: Ledger>(
     ensures uses { Uses S.content S.faults calls.old calls.new (length found.now) (length found.now) }
     ensures cause { IfErr result (Fails (where_told (ShowsRead catalog.now.tables)) S.content S.faults calls.old
         calls.new) }
+    ensures rounds { S.rounds calls.new.store.now ≤ S.rounds calls.old.store.now + 1 }
     ensures answered { IfErr result (IsAnswered S.answers) }
     ensures long { IfOk result (λ rows. length rows ≡ length found.now) }
     ensures fit { IfOk result (AllByRecursion (AllFit (types_of (table_at catalog.now.tables number)))) }

@@ -1,5 +1,5 @@
 //! Ranges of keys of one sequence.
-ghost use Rattle.std.specs.Prelude.{◌≡◌, ◌≤◌, All, map, length, IfOk, IfErr, IfSome};
+ghost use Rattle.std.specs.Prelude.{◌≡◌, ◌≤◌, ◌+◌, All, map, length, IfOk, IfErr, IfSome};
 ghost use Rattle.std.specs.List.{AllByRecursion};
 ghost use Rattle.pq_base.specs.Values.{IsType, AllFit};
 ghost use Rattle.pq_schema.specs.Rows.{types_of};
@@ -79,6 +79,7 @@ pub fn range_rows<S: Store<L>, L: Ledger>(
     ensures uses { Uses S.content S.faults calls.old calls.new 1 limit }
     ensures cause { IfErr result (Fails (where_told (ShowsRead catalog.now.tables)) S.content S.faults calls.old
         calls.new) }
+    ensures rounds { S.rounds calls.new.store.now ≤ S.rounds calls.old.store.now + 1 }
     ensures answered { IfErr result (IsAnswered S.answers) }
     ensures few { IfOk result (λ rows. length rows ≤ limit) }
     ensures fit { IfOk result (AllByRecursion (AllFit (types_of (table_at catalog.now.tables number)))) }
@@ -176,6 +177,7 @@ pub fn range_values<S: Store<L>, L: Ledger>(
     ensures uses { Uses S.content S.faults calls.old calls.new 1 limit }
     ensures cause { IfErr result (Fails (where_told (ShowsRead catalog.now.tables)) S.content S.faults calls.old
         calls.new) }
+    ensures rounds { S.rounds calls.new.store.now ≤ S.rounds calls.old.store.now + 1 }
     ensures answered { IfErr result (IsAnswered S.answers) }
     ensures few { IfOk result (λ found. length found ≤ limit) }
     ensures fit { IfOk result (AllByRecursion (AllFit (sequence_types (table_at catalog.now.tables number) access))) }

@@ -1,5 +1,5 @@
 //! The rows of a range of any sequence.
-ghost use Rattle.std.specs.Prelude.{◌≡◌, ◌≤◌, List, map, take, length, IfOk, IfErr, IfSome};
+ghost use Rattle.std.specs.Prelude.{◌≡◌, ◌≤◌, ◌+◌, List, map, take, length, IfOk, IfErr, IfSome};
 ghost use Rattle.std.specs.List.{AllByRecursion};
 ghost use Rattle.pq_base.specs.Members.{In};
 ghost use Rattle.pq_base.specs.Values.{AllFit};
@@ -17,6 +17,7 @@ ghost use Rattle.pq_content.specs.Pairs.{Pair, HoldsRows, content_pairs};
 ghost use Rattle.pq_content.specs.Tables.{Rows, values_of, rows_of};
 ghost use Rattle.pq_plan.specs.Cost.{is_primary_access};
 ghost use Rattle.pq_nodes.specs.Operators.{ShowsRead};
+ghost use Rattle.pq_nodes.specs.Rounds.{access_rounds};
 ghost use Rattle.pq_entries.specs.Entries.{IsSequence, AreEnds, AreNamedRows, AreSequenceRows, IsEntryThere, pair_of};
 
 use crate::fetch::named_rows;
@@ -49,6 +50,7 @@ pub fn sequence_rows<S: Store<L>, L: Ledger>(
         (limit_cost (is_primary_access access) limit).entries }
     ensures cause { IfErr result (Fails (where_told (ShowsRead catalog.now.tables)) S.content S.faults calls.old
         calls.new) }
+    ensures rounds { S.rounds calls.new.store.now ≤ S.rounds calls.old.store.now + access_rounds access }
     ensures answered { IfErr result (IsAnswered S.answers) }
     ensures few { IfOk result (λ found. length found ≤ limit) }
     ensures fit { IfOk result (AllByRecursion (AllFit (types_of (table_at catalog.now.tables number)))) }

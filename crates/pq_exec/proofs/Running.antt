@@ -1,8 +1,8 @@
 -- A tree is run as its input and then its outermost node.
-use Rattle.std.proofs.Common.{◌≡◌, ℕ, suc, ◌<◌, ◌≤◌, List, [], ◌∷◌, ◌++◌, length, Option, None, Some, refl, sym, ap, ◌∙◌, subst, arith, length-append}
-use Rattle.std.specs.Prelude.{Result, Ok, Err, IfOk, IfSome}
+use Rattle.std.proofs.Common.{◌≡◌, ℕ, suc, ◌+◌, ◌<◌, ◌≤◌, List, [], ◌∷◌, ◌++◌, length, Option, None, Some, refl, sym, ap, ◌∙◌, subst, arith, length-append}
+use Rattle.std.specs.Prelude.{Result, Ok, Err, IfOk, IfSome, sum_by}
 use Rattle.std.specs.List.{AllByRecursion}
-use Rattle.std.proofs.lemmas.List.Sums.{fold-append}
+use Rattle.std.proofs.lemmas.List.Sums.{fold-append, sum_by_push}
 use Rattle.pq_base.specs.declared.number.Bound.{Bound}
 use Rattle.pq_base.specs.declared.value.Value.{Value}
 use Rattle.pq_schema.specs.Costs.{ReachedCost, start, plus}
@@ -24,6 +24,7 @@ use Rattle.pq_nodes.specs.Combos.{FitsTables}
 use Rattle.pq_nodes.specs.Operators.{IsReadyNode, AffordsNode, ReadsNode, AnswersNode}
 use Rattle.pq_nodes.specs.Ordered.{after_node, after_nodes, StandsAt}
 use Rattle.pq_nodes.specs.Paid.{node_cost, node_size, IsAtMost}
+use Rattle.pq_nodes.specs.Rounds.{node_rounds, plan_rounds}
 use Rattle.pq_nodes.proofs.Paying.{at_most_itself, step_size, step_more}
 use Rattle.pq_runnable.specs.Runnable.{IsWholeAt, IsRunnable, IsRunnableNode}
 use Rattle.pq_runnable.proofs.Runnable.{runnable_split}
@@ -79,6 +80,24 @@ none_read tables query granted (keep rel ∷ rest) some runnable none = let low 
 none_read tables query granted (sort ∷ rest) some runnable none = let whole = runnable.whole.0 in absurd (omega arith)
 none_read tables query granted (cut k ∷ rest) some runnable none = let whole = runnable.whole.0 in absurd (omega arith)
 none_read tables query granted (project ∷ rest) some runnable none = let whole = runnable.whole.0 in absurd (omega arith)
+
+-- ---- rounds
+
+-- a tree makes the rounds of its input, and those of its outermost node
+rounds_over : (tree input : Physical) → nodes tree ≡ nodes input ++ top_node tree ∷ [] → plan_rounds tree ≡ plan_rounds input + node_rounds (top_node tree)
+rounds_over tree input over = ap (λ list. sum_by node_rounds list) over ∙ sum_by_push node_rounds (nodes input) (top_node tree)
+
+no_more : (before own whole a b : ℕ) → whole ≡ before + own → b ≤ a + before → b ≤ a + whole
+no_more before own whole a b sum first = omega (arith, sum, first)
+
+one_more : (before own whole a b c : ℕ) → whole ≡ before + own → b ≤ a + before → c ≤ b + own → c ≤ a + whole
+one_more before own whole a b c sum first then = omega (arith, sum, first, then)
+
+pub input_rounds : (tree input : Physical) → nodes tree ≡ nodes input ++ top_node tree ∷ [] → (a b : ℕ) → b ≤ a + plan_rounds input → b ≤ a + plan_rounds tree
+input_rounds tree input over a b first = no_more (plan_rounds input) (node_rounds (top_node tree)) (plan_rounds tree) a b (rounds_over tree input over) first
+
+pub tree_rounds : (tree input : Physical) → nodes tree ≡ nodes input ++ top_node tree ∷ [] → (a b c : ℕ) → b ≤ a + plan_rounds input → c ≤ b + node_rounds (top_node tree) → c ≤ a + plan_rounds tree
+tree_rounds tree input over a b c first then = one_more (plan_rounds input) (node_rounds (top_node tree)) (plan_rounds tree) a b c (rounds_over tree input over) first then
 
 -- ---- a tree over its input
 

@@ -1,5 +1,5 @@
 //! Executing a plan.
-ghost use Rattle.std.specs.Prelude.{◌≡◌, length, option_copied, IfOk, IfErr, IfSome};
+ghost use Rattle.std.specs.Prelude.{◌≡◌, ◌≤◌, ◌+◌, length, option_copied, IfOk, IfErr, IfSome};
 ghost use Rattle.std.specs.List.{AllByRecursion};
 ghost use Rattle.pq_base.specs.Values.{AllFit};
 ghost use Rattle.pq_schema.specs.Resolved.{IsResolved};
@@ -9,6 +9,7 @@ ghost use Rattle.pq_calls.specs.World.{where_told};
 ghost use Rattle.pq_plan.specs.Cost.{cost};
 ghost use Rattle.pq_nodes.specs.Combos.{FitsTables, position_types};
 ghost use Rattle.pq_nodes.specs.Operators.{IsAsked, IsCursor, ShowsRead, IsSoundOverRows};
+ghost use Rattle.pq_nodes.specs.Rounds.{plan_rounds};
 ghost use Rattle.pq_runnable.specs.Runnable.{IsRunnablePlan};
 ghost use Rattle.pq_exec.specs.Execution.{AnswersQuery, IsAnswerIn, IsLastPosition, IsPage, RisesByUsed, RisesWithin};
 
@@ -81,6 +82,7 @@ pub fn execute<S: Store<L>, L: Ledger>(
     ensures bound { RisesWithin (cost plan.now) meter.old meter.new }
     ensures used { IfOk result (λ answer. RisesByUsed answer.used meter.old meter.new) }
     ensures cause { HasBrokeCause (S.faults store.old) (S.faults store.new) result }
+    ensures rounds { S.rounds store.new ≤ S.rounds store.old + plan_rounds plan.now }
     ensures answered { IfErr result (IsAnswered S.answers) }
     ensures damage { IfErr result (IfDamaged (where_told (ShowsRead catalog.now.tables) (S.content store.old))) }
     ensures undamaged { IfErr result (IsSoundOverRows (S.content store.old) catalog.now.tables) }

@@ -1,5 +1,5 @@
 //! One node of a plan, run over its inputs.
-ghost use Rattle.std.specs.Prelude.{◌≡◌, ◌-◌, [], ◌∷◌, length, option_copied, IfOk, IfErr, IfSome};
+ghost use Rattle.std.specs.Prelude.{◌≡◌, ◌-◌, ◌≤◌, ◌+◌, [], ◌∷◌, length, option_copied, IfOk, IfErr, IfSome};
 ghost use Rattle.std.specs.List.{AllByRecursion};
 ghost use Rattle.pq_store.specs.Breaks.{IsAnswered};
 ghost use Rattle.pq_calls.specs.World.{world};
@@ -7,6 +7,7 @@ ghost use Rattle.pq_plan.specs.Nodes.{stop_scan};
 ghost use Rattle.pq_nodes.specs.Combos.{FitsTables};
 ghost use Rattle.pq_nodes.specs.Operators.{IsAsked, IsReadyNode, AreFound, AreInputs, IsCursor, AffordsNode, ReadsNode};
 ghost use Rattle.pq_nodes.specs.Operators.{AnswersNode, StopsReading, IsSoundOverRows};
+ghost use Rattle.pq_nodes.specs.Rounds.{node_rounds};
 ghost use Rattle.pq_exec.specs.Execution.{top_node, rows_before, AreGiven, ArePastCursor, IsCutOf, IsFoundIn};
 ghost use Rattle.pq_local_ops.specs.Lists.{ArePart};
 
@@ -95,6 +96,7 @@ fn read_stop<S: Store<L>, L: Ledger>(
     ensures cause { IfErr result (StopsReading request.now.catalog.now.tables
         (world (S.content store.old) (S.faults store.old) allowance.old meter.old)
         (world (S.content store.new) (S.faults store.new) allowance.new meter.new)) }
+    ensures rounds { S.rounds store.new ≤ S.rounds store.old + node_rounds (stop_scan rel k access) }
     ensures answered { IfErr result (IsAnswered S.answers) }
     ensures undamaged { IfErr result (IsSoundOverRows (S.content store.old) request.now.catalog.now.tables) }
 {
@@ -145,6 +147,7 @@ pub(crate) fn run_node<S: Store<L>, L: Ledger>(
     ensures cause { IfErr result (StopsReading request.now.catalog.now.tables
         (world (S.content store.old) (S.faults store.old) allowance.old meter.old)
         (world (S.content store.new) (S.faults store.new) allowance.new meter.new)) }
+    ensures rounds { S.rounds store.new ≤ S.rounds store.old + node_rounds (top_node tree.now) }
     ensures answered { IfErr result (IsAnswered S.answers) }
     ensures undamaged { IfErr result (IsSoundOverRows (S.content store.old) request.now.catalog.now.tables) }
 {

@@ -1,10 +1,11 @@
 //! The tree of a plan, run from its innermost node on.
-ghost use Rattle.std.specs.Prelude.{◌≡◌, [], ◌∷◌, option_copied, IfOk, IfErr, IfSome};
+ghost use Rattle.std.specs.Prelude.{◌≡◌, ◌≤◌, ◌+◌, [], ◌∷◌, option_copied, IfOk, IfErr, IfSome};
 ghost use Rattle.pq_store.specs.Breaks.{IsAnswered};
 ghost use Rattle.pq_calls.specs.World.{world, Affords, Reads};
 ghost use Rattle.pq_plan.specs.Cost.{cost};
 ghost use Rattle.pq_plan.specs.Nodes.{nodes};
 ghost use Rattle.pq_nodes.specs.Operators.{IsAsked, IsCursor, StopsReading, IsSoundOverRows};
+ghost use Rattle.pq_nodes.specs.Rounds.{plan_rounds};
 ghost use Rattle.pq_runnable.specs.Runnable.{IsRunnable};
 ghost use Rattle.pq_exec.specs.Execution.{IsInputOf, AreFoundIn, AreRun, RunAnswers};
 
@@ -67,6 +68,7 @@ pub(crate) fn run<S: Store<L>, L: Ledger>(
     ensures cause { IfErr result (StopsReading request.now.catalog.now.tables
         (world (S.content store.old) (S.faults store.old) allowance.old meter.old)
         (world (S.content store.new) (S.faults store.new) allowance.new meter.new)) }
+    ensures rounds { S.rounds store.new ≤ S.rounds store.old + plan_rounds tree.now }
     ensures answered { IfErr result (IsAnswered S.answers) }
     ensures undamaged { IfErr result (IsSoundOverRows (S.content store.old) request.now.catalog.now.tables) }
 {

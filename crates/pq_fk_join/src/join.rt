@@ -9,6 +9,7 @@ ghost use Rattle.pq_calls.specs.World.{Affords, where_told, world};
 ghost use Rattle.pq_plan.specs.Nodes.{lookup};
 ghost use Rattle.pq_nodes.specs.Inverse.{IsLookup};
 ghost use Rattle.pq_nodes.specs.Operators.{IsAsked, IsReadyNode, AreInputs, AffordsNode, ReadsNode, AreFound, AnswersNode, ShowsRead, StopsReading, IsSoundOverRows};
+ghost use Rattle.pq_nodes.specs.Rounds.{node_rounds};
 ghost use Rattle.pq_fk_join.specs.Joined.{tied_at, IsUnreadFrom, AddsRead, AreJoined, AddsJoined, AddsLookedUp};
 
 use pq_base::{Bytes, ColType, List, NoMem, Row, has_null};
@@ -131,6 +132,7 @@ fn join_each<S: Store<L>, L: Ledger>(
     ensures uses { Uses S.content S.faults calls.old calls.new (length inputs) (length inputs) }
     ensures cause { IfErr result (Fails (where_told (ShowsRead catalog.now.tables))
         S.content S.faults calls.old calls.new) }
+    ensures rounds { S.rounds calls.new.store.now ≤ S.rounds calls.old.store.now + 1 }
     ensures answered { IfErr result (IsAnswered S.answers) }
     ensures found { IfOk result (AreFound catalog.now.tables query.now rel (length inputs) (lookup rel)) }
     ensures codes { IfOk result (AddsJoined (S.content calls.old.store.now)
@@ -188,6 +190,7 @@ pub fn fk_join<S: Store<L>, L: Ledger>(
     ensures cause { IfErr result (StopsReading catalog.now.tables
         (world (S.content store.old) (S.faults store.old) allowance.old meter.old)
         (world (S.content store.new) (S.faults store.new) allowance.new meter.new)) }
+    ensures rounds { S.rounds store.new ≤ S.rounds store.old + node_rounds (lookup rel) }
     ensures answered { IfErr result (IsAnswered S.answers) }
     ensures undamaged { IfErr result (IsSoundOverRows (S.content store.old) catalog.now.tables) }
 {

@@ -1,5 +1,5 @@
 -- What the tests of a write may read behind writes that remove pairs.
-use Rattle.std.proofs.Common.{◌≡◌, ℕ, ◌+◌, ◌*◌, ◌≤◌, ◌==◌, Bool, true, false, cond, List, [], ◌∷◌, length, sym, ap, ◌∙◌, arith}
+use Rattle.std.proofs.Common.{◌≡◌, ℕ, ◌+◌, ◌*◌, ◌≤◌, ◌==◌, Bool, true, false, cond, List, [], ◌∷◌, length, refl, sym, ap, ◌∙◌, arith}
 use Rattle.std.specs.List.{sum_by, count_by}
 use Rattle.std.proofs.lemmas.List.Sums.{sum_by-cons, count_by-le-length}
 use Rattle.std.proofs.Math.Nat.{mul-le-mul_left}
@@ -16,6 +16,7 @@ use Rattle.pq_index_keep.specs.declared.write.SetCol.{SetCol}
 use Rattle.pq_index_keep.specs.declared.write.Write.{Write}
 use Rattle.pq_index_keep.specs.declared.write.Write.TheVariants as write
 use Rattle.pq_index_keep.specs.Bounds.{tested_limits, tested_n, tested_n_behind, tested_behind, tests, refers, refers_behind, referring_count, referring_behind, counted, tests_behind, write_tests}
+use Rattle.pq_index_keep.specs.Rounds.{write_rounds, alone_rounds}
 use Rattle.pq_index_keep.specs.Sound.{AreWritable, IsWrite}
 use Rattle.pq_index_keep.specs.Tested.{touches, scope_of}
 use Rattle.pq_index_keep.proofs.Few.{tests_few, referring_few}
@@ -123,3 +124,9 @@ pub few_behind : (tests : Bound) (count removers : ℕ) → AreFewTests tests co
 few_behind tests count removers few removed =
     let most : count * removers ≤ count * 256 = mul-le-mul_left count removed in
     omega (arith, few.both, most)
+
+-- how often a write asks the store where nothing is pending
+pub alone_is : (tables : List Table) (write : Write) → write_rounds [] tables write ≡ alone_rounds write
+alone_is tables (write.Insert t row) = refl
+alone_is tables (write.Update t key sets conds) = refl
+alone_is tables (write.Delete t key conds) = refl

@@ -121,42 +121,7 @@ drop_here [] i table less at = absurd (omega arith)
 drop_here (x ∷ xs) zero table less at = ap (λ (y : Table). y ∷ xs) (sym at)
 drop_here (x ∷ xs) (suc i) table less at = drop_here xs i table (omega arith) at ∙ ap (λ (k : ℕ). table ∷ drop k xs) (add-one i) ∙ ap (λ (k : ℕ). table ∷ drop k (x ∷ xs)) (sym (add-one (suc i)))
 
-own_item : (tables : List Table) (i : ℕ) (child : Table) → i < length tables → child ≡ get_or tables i child → child ≡ get_or tables i no_table
-own_item [] i child less at = absurd (omega arith)
-own_item (x ∷ xs) zero child less at = at
-own_item (x ∷ xs) (suc i) child less at = own_item xs i child (omega arith) at
-
-own_number : (tables : List Table) (i : ℕ) (child : Table) → i < length tables → child ≡ get_or tables i child → child ≡ table_at tables (i + 1)
-own_number tables i child less at =
-    let place : i ≡ i + 1 - 1 = omega arith in
-    own_item tables i child less at ∙ ap (λ (n : ℕ). get_or tables n no_table) place
-
 module _ (rows : Rows) (t : ℕ) (key : List Value) where
-  -- the first foreign key of the table at hand, else those of the tables after it
-  pub child_here : (tables : List Table) (i : ℕ) (table : Table) → i < length tables → table ≡ get_or tables i table
-      → child_refusal rows t key (i + 1) (drop i tables) ≡ or_else (option_map (referenced_refusal table) (position (names_key rows t key (i + 1)) table.foreign)) (child_refusal rows t key (i + 1 + 1) (drop (i + 1) tables))
-  child_here tables i table less at = ap (child_refusal rows t key (i + 1)) (drop_here tables i table less at)
-
-  -- of the table at hand: the first of its foreign keys by which some row names the key, where a search told that
-  pub named_here : (tables : List Table) (i : ℕ) (table : Table) (own : List Foreign) (found : Option ℕ) (told : Option Content) (others : List Pair) → i < length tables → table ≡ get_or tables i table → own ≡ table.foreign
-      → All (λ (table : Table). All (MayName table t key) table.foreign) tables → HoldsRows told tables rows others
-      → (table ≡ table_at tables (i + 1) → All (MayName table t key) own → found ≡ position (names_key rows t key (i + 1)) own) → found ≡ position (names_key rows t key (i + 1)) table.foreign
-  named_here tables i table own found told others less at is may s tells =
-      let may_here : All (MayName table t key) table.foreign = subst (λ (tb : Table). All (MayName tb t key) tb.foreign) (sym at) (may i table less) in
-      subst (λ (fs : List Foreign). found ≡ position (names_key rows t key (i + 1)) fs) is
-      (tells (own_number tables i table less at) (subst (λ (fs : List Foreign). All (MayName table t key) fs) (sym is) may_here))
-
-  -- what the first table of these shows: no row that names the key, or the first foreign key by which one does
-  pub child_later : (tables : List Table) (i : ℕ) (table : Table) (found : Option ℕ) → i < length tables → table ≡ get_or tables i table → found ≡ position (names_key rows t key (i + 1)) table.foreign → found ≡ None
-      → child_refusal rows t key (i + 1) (drop i tables) ≡ child_refusal rows t key (i + 1 + 1) (drop (i + 1) tables)
-  child_later tables i table found less at is none =
-      child_here tables i table less at ∙ ap (λ (o : Option ℕ). or_else (option_map (referenced_refusal table) o) (child_refusal rows t key (i + 1 + 1) (drop (i + 1) tables))) (sym is ∙ none)
-
-  pub child_found : (tables : List Table) (i : ℕ) (table : Table) (found : Option ℕ) (place : ℕ) → i < length tables → table ≡ get_or tables i table → found ≡ position (names_key rows t key (i + 1)) table.foreign → found ≡ Some place
-      → child_refusal rows t key (i + 1) (drop i tables) ≡ Some (referenced_refusal table place)
-  child_found tables i table found place less at is here =
-      child_here tables i table less at ∙ ap (λ (o : Option ℕ). or_else (option_map (referenced_refusal table) o) (child_refusal rows t key (i + 1 + 1) (drop (i + 1) tables))) (sym is ∙ here)
-
   no_child : (tables : List Table) (u : ℕ) → child_refusal rows t key u tables ≡ None → (k : ℕ) → k < length tables → AllByRecursion (λ (f : Foreign). names_key rows t key (u + k) f ≡ false) (get_or tables k no_table).foreign
   no_child [] u none k less = absurd (omega arith)
   no_child (x ∷ xs) u none zero less =

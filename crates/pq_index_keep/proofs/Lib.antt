@@ -1,3 +1,4 @@
+pub mod Asked
 pub mod Behind
 pub mod Changing
 pub mod Coding
@@ -9,10 +10,10 @@ pub mod Fitting
 pub mod Inserting
 pub mod Narrow
 pub mod Ranged
+pub mod Referring
 pub mod Refusing
 pub mod Removing
 pub mod Shortened
-pub mod Steps
 pub mod Tests
 pub mod Touching
 pub mod Updating

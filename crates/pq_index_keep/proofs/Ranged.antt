@@ -1,5 +1,5 @@
 -- The range of a group lies within one sequence of its table, so each write that removes pairs removes at most one of it.
-use Rattle.std.proofs.Common.{◌≡◌, ◌≤◌, ◌==◌, ℕ, Bool, true, false, ◌&&◌, List, [], ◌∷◌, refl, sym, subst, ◌∙◌, arith}
+use Rattle.std.proofs.Common.{◌≡◌, ◌≤◌, ◌==◌, ℕ, Bool, true, false, ◌&&◌, List, [], ◌∷◌, refl, sym, ◌∙◌, arith}
 use Rattle.pq_base.specs.declared.value.Value.{Value}
 use Rattle.pq_key_code.specs.KeyCode.{past_code}
 use Rattle.pq_schema.specs.declared.table.Access.{Access}
@@ -59,8 +59,3 @@ group_removals t table cols values most changes thin =
     let low = group_key t table cols values in
     let some = removed_within low (past_code low) t access changes (under_sequence t table access (first_values table access cols values)) in
     omega (arith, some, thin t access)
-
--- the same of its ends as they were made
-pub range_removals : (t : ℕ) (table : Table) (cols : List ℕ) (values : List Value) (most : ℕ) (changes : List Change) → RemovesAtMost most changes → (low high : List ℕ) → low ≡ group_key t table cols values → high ≡ past_code (group_key t table cols values) → removals_within low high changes ≤ most
-range_removals t table cols values most changes thin low high first last =
-    subst (λ (l : List ℕ). removals_within l high changes ≤ most) (sym first) (subst (λ (h : List ℕ). removals_within (group_key t table cols values) h changes ≤ most) (sym last) (group_removals t table cols values most changes thin))

@@ -1,8 +1,10 @@
+pub mod Asking
 pub mod Bounds
 pub mod Checking
 pub mod Effects
 pub mod Moved
 pub mod Promises
 pub mod Refusals
+pub mod Rounds
 pub mod Sound
 pub mod Tested

@@ -1,10 +1,11 @@
 -- The refusals that a write can have, whatever the store holds.
-use Rattle.std.specs.Prelude.{◌≡◌, ◌⊎◌, ℕ, ◌<◌, List, length, slice_index_or}
+use Rattle.std.specs.Prelude.{◌≡◌, ◌⊎◌, ℕ, ◌<◌, List, [], ◌∷◌, length, slice_index_or}
 use Rattle.pq_base.specs.declared.refusal.Refusal.{Refusal}
 use Rattle.pq_base.specs.declared.refusal.Refusal.TheVariants as refusal
 use Rattle.pq_schema.specs.Tables.{no_table, table_at}
 use Rattle.pq_schema.specs.declared.table.Table.{Table}
 use Rattle.pq_base.specs.Members.{In}
+use Rattle.pq_store.specs.declared.store.Test.{Test}
 use Rattle.pq_index_keep.specs.Effects.{no_parent, no_room, no_row, no_sum, referenced_refusal, unmet}
 use Rattle.pq_index_keep.specs.declared.plan.Planned.{Planned}
 use Rattle.pq_index_keep.specs.declared.plan.Planned.TheVariants as planned
@@ -22,6 +23,11 @@ IsTestRefusal table why =
 -- of a row that is inserted: its key is taken, or it doesn't pass a test
 abbrev pub IsInsertRefusal : Table → Refusal → Type 0
 IsInsertRefusal table why = (why ≡ refusal.DuplicateKey table.name) ⊎ IsTestRefusal table why
+
+-- the same where the key is asked for by one test, or not at all
+abbrev pub IsAskedRefusal : List Test → Table → Refusal → Type 0
+IsAskedRefusal [] table why = IsTestRefusal table why
+IsAskedRefusal (test ∷ own) table why = IsInsertRefusal table why
 
 -- of a row that is updated: its code is too long, or it doesn't pass a test
 abbrev pub IsUpdateRefusal : Table → Refusal → Type 0

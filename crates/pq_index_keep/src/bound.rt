@@ -114,7 +114,8 @@ fn touched_indexes(scope: &Scope, table: &Table) -> usize
     count
 }
 
-fn refers(number: u8, table: &Table) -> usize
+/// How many foreign keys of a table refer to another.
+pub(crate) fn refers(number: u8, table: &Table) -> usize
     ensures { result ≡ refers number table.now }
 {
     table

@@ -9,7 +9,7 @@ ghost use Rattle.pq_schema.specs.Sound.{IsTable, AreColumns, AreParts};
 ghost use Rattle.pq_schema.specs.Tables.{table_at};
 ghost use Rattle.pq_content.specs.Pairs.{Pair};
 ghost use Rattle.pq_content.specs.Tables.{Rows, AllOfKinds, IsTableNumber, key_types, types_of, shape_of, key_of, row_at};
-ghost use Rattle.pq_index_keep.specs.Bounds.{referring_count, referring_behind, tested_behind, tests};
+ghost use Rattle.pq_index_keep.specs.Bounds.{referring_count, referring_behind, tested_limits, tested_behind, tests};
 ghost use Rattle.pq_index_keep.specs.Effects.{condition_refusal};
 ghost use Rattle.pq_store.specs.Breaks.{IsAnswered};
 ghost use Rattle.pq_pending.specs.Calls.{Uses, Fails, seen, answers_of};
@@ -17,6 +17,7 @@ ghost use Rattle.pq_calls.specs.Evidence.{IsRead, IsNoRow};
 ghost use Rattle.pq_calls.specs.World.{Affords, no_damage, where_told};
 ghost use Rattle.pq_index_keep.specs.Promises.{HoldsRows, Plans, IsPlannedWithin, ChangesFrom, IsShortWithin, RemovesFew, IsReadFor, FitsItsTable, IsNewFor};
 ghost use Rattle.pq_index_keep.specs.Refusals.{RefusesAs};
+ghost use Rattle.pq_index_keep.specs.Rounds.{test_rounds};
 ghost use Rattle.pq_index_keep.specs.Sound.{AreWritable, IsInsert, IsDelete};
 ghost use Rattle.pq_index_keep.specs.declared.write.Cond.{Cond as Condition};
 
@@ -98,6 +99,9 @@ pub(crate) fn plan_insert<S: Store<L>, L: Ledger>(
     ensures uses { Uses S.content S.faults calls.old calls.new
         (tests Scope.All (table_at catalog.now.tables number)).ops
         (tested_behind calls.old.pending.now.removers Scope.All (table_at catalog.now.tables number)).entries }
+    ensures rounds { S.rounds calls.new.store.now ≤ S.rounds calls.old.store.now
+        + test_rounds calls.old.pending.now.changes
+        (tested_limits Scope.All (table_at catalog.now.tables number).limits) }
     ensures cause { IfErr result (Fails no_damage S.content S.faults calls.old calls.new) }
     ensures answered { IfErr result (IsAnswered (answers_of S.answers calls.old)) }
     ensures plan { IfOk result (IsPlannedWithin (1 + length (table_at catalog.now.tables number).indexes)) }
@@ -134,6 +138,7 @@ pub(crate) fn find_row<S: Store<L>, L: Ledger>(
     requires kinds { AllOfKinds (key_types (table_at catalog.now.tables number)) key.now }
     requires share { Affords calls.old.allowance.now 1 1 }
     ensures uses { Uses S.content S.faults calls.old calls.new 1 1 }
+    ensures round { S.rounds calls.new.store.now ≤ S.rounds calls.old.store.now + 1 }
     ensures cause { IfErr result (Fails (where_told (IsNoRow catalog.now.tables)) S.content S.faults calls.old
         calls.new) }
     ensures answered { IfErr result (IsAnswered (answers_of S.answers calls.old)) }
@@ -173,6 +178,8 @@ fn plan_removal<S: Store<L>, L: Ledger>(
         (referring_behind calls.old.pending.now.removers catalog.now.tables number) }
     ensures uses { Uses S.content S.faults calls.old calls.new (referring_count catalog.now.tables number)
         (referring_behind calls.old.pending.now.removers catalog.now.tables number) }
+    ensures rounds { S.rounds calls.new.store.now ≤ S.rounds calls.old.store.now
+        + test_rounds calls.old.pending.now.changes (referring_count catalog.now.tables number) }
     ensures cause { IfErr result (Fails no_damage S.content S.faults calls.old calls.new) }
     ensures answered { IfErr result (IsAnswered (answers_of S.answers calls.old)) }
     ensures plan { IfOk result (IsPlannedWithin (1 + length (table_at catalog.now.tables number).indexes)) }
@@ -222,6 +229,8 @@ fn plan_held<S: Store<L>, L: Ledger>(
         (referring_behind calls.old.pending.now.removers catalog.now.tables number) }
     ensures uses { Uses S.content S.faults calls.old calls.new (referring_count catalog.now.tables number)
         (referring_behind calls.old.pending.now.removers catalog.now.tables number) }
+    ensures rounds { S.rounds calls.new.store.now ≤ S.rounds calls.old.store.now
+        + test_rounds calls.old.pending.now.changes (referring_count catalog.now.tables number) }
     ensures cause { IfErr result (Fails no_damage S.content S.faults calls.old calls.new) }
     ensures answered { IfErr result (IsAnswered (answers_of S.answers calls.old)) }
     ensures plan { IfOk result (IsPlannedWithin (1 + length (table_at catalog.now.tables number).indexes)) }
@@ -257,6 +266,8 @@ pub(crate) fn plan_delete<S: Store<L>, L: Ledger>(
         (1 + referring_behind calls.old.pending.now.removers catalog.now.tables number) }
     ensures uses { Uses S.content S.faults calls.old calls.new (1 + referring_count catalog.now.tables number)
         (1 + referring_behind calls.old.pending.now.removers catalog.now.tables number) }
+    ensures rounds { S.rounds calls.new.store.now ≤ S.rounds calls.old.store.now
+        + (1 + test_rounds calls.old.pending.now.changes (referring_count catalog.now.tables number)) }
     ensures cause { IfErr result (Fails (where_told (IsNoRow catalog.now.tables)) S.content S.faults calls.old
         calls.new) }
     ensures answered { IfErr result (IsAnswered (answers_of S.answers calls.old)) }

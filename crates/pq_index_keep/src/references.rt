@@ -1,7 +1,8 @@
 //! Why a DELETE is refused by the rows that name its row.
-ghost use Rattle.std.specs.Prelude.{◌≡◌, ◌≤◌, ◌<◌, List, All, length, IfOk, IfErr, IfSome};
+ghost use Rattle.std.specs.Prelude.{◌≡◌, ◌≤◌, ◌<◌, ◌+◌, List, All, length, IfOk, IfErr, IfSome};
 ghost use Rattle.pq_content.specs.Pairs.{Pair};
 ghost use Rattle.pq_content.specs.Tables.{Rows};
+ghost use Rattle.pq_index_keep.specs.Asking.{child_refusal_at};
 ghost use Rattle.pq_index_keep.specs.Bounds.{referring_count, referring_behind};
 ghost use Rattle.pq_index_keep.specs.Effects.{referenced_refusal, child_refusal};
 ghost use Rattle.pq_store.specs.Breaks.{IsAnswered};
@@ -9,10 +10,12 @@ ghost use Rattle.pq_pending.specs.Calls.{Uses, Fails, seen, answers_of};
 ghost use Rattle.pq_calls.specs.World.{Affords, no_damage};
 ghost use Rattle.pq_index_keep.specs.Promises.{HoldsRows};
 ghost use Rattle.pq_index_keep.specs.Refusals.{IsDeleteRefusal};
+ghost use Rattle.pq_index_keep.specs.Rounds.{test_rounds};
 ghost use Rattle.pq_index_keep.specs.Sound.{AreWritable, MayName};
 
-use crate::children::first_naming;
-use pq_base::{NoMem, Refusal, Row};
+use crate::bound::refers;
+use crate::children::{ask_children, naming_place};
+use pq_base::{List, NoMem, Refusal, Row};
 use pq_pending::PendingCalls;
 use pq_schema::Table;
 use pq_store::{Broke, Store};
@@ -28,6 +31,30 @@ pub fn referenced(alloc: Global, table: &Table, place: usize) -> Result<Refusal,
         table: table.name.copy(alloc)?,
         number: place as u8 + 1,
     })
+}
+
+/// The refusal of the test at a place among those of all foreign keys that refer to the table.
+fn child_refusal_at(
+    alloc: Global,
+    tables: &[Table],
+    number: u8,
+    at: usize,
+) -> Result<Refusal, NoMem>
+    requires sound { All (λ table. length table.foreign ≤ 4) tables.now }
+    requires within { at < referring_count tables.now number }
+    ensures { IfOk result (λ refusal. refusal ≡ child_refusal_at number tables.now at) }
+{
+    match tables.split_first() {
+        None => unreachable!(),
+        Some((table, rest)) => {
+            let own = refers(number, table);
+            if at >= own {
+                return child_refusal_at(alloc, rest, number, at - own);
+            }
+            let place = naming_place(number, table.foreign.items(), at);
+            referenced(alloc, table, place)
+        }
+    }
 }
 
 /// The refusal of the first foreign key, in order of tables, by which some row names the key.
@@ -46,6 +73,8 @@ pub(crate) fn child_refusal<S: Store<L>, L: Ledger>(
         (referring_behind calls.old.pending.now.removers tables.now number) }
     ensures uses { Uses S.content S.faults calls.old calls.new (referring_count tables.now number)
         (referring_behind calls.old.pending.now.removers tables.now number) }
+    ensures rounds { S.rounds calls.new.store.now ≤ S.rounds calls.old.store.now
+        + test_rounds calls.old.pending.now.changes (referring_count tables.now number) }
     ensures cause { IfErr result (Fails no_damage S.content S.faults calls.old calls.new) }
     ensures answered { IfErr result (IsAnswered (answers_of S.answers calls.old)) }
     ensures can { IfOk result (λ refusal. IfSome refusal (IsDeleteRefusal tables.now)) }
@@ -53,13 +82,11 @@ pub(crate) fn child_refusal<S: Store<L>, L: Ledger>(
         → HoldsRows (seen S.content calls.old) tables.now rows others
         → refusal ≡ child_refusal rows number key.now 1 tables.now) }
 {
-    for (i, table) in tables.iter().enumerate() {
-        let foreign = table.foreign.items();
-        let child = i as u8 + 1;
-        let naming = first_naming(alloc, number, key, child, table, foreign, calls)?;
-        if let Some(place) = naming {
-            return Ok(Some(referenced(alloc, table, place)?));
-        }
+    calls.pending.known();
+    let mut tests = List::new(alloc);
+    ask_children(alloc, number, key, tables, &mut tests)?;
+    match calls.first_held(alloc, tests.items())? {
+        None => Ok(None),
+        Some(at) => Ok(Some(child_refusal_at(alloc, tables, number, at)?)),
     }
-    Ok(None)
 }

@@ -1,5 +1,5 @@
 //! Why a write is refused by the rows that are there.
-ghost use Rattle.std.specs.Prelude.{◌≡◌, ◌≤◌, ◌<◌, ◌+◌, List, All, length, IfOk, IfErr, IfSome, IsSome};
+ghost use Rattle.std.specs.Prelude.{◌≡◌, ◌≤◌, ◌<◌, ◌+◌, ◌-◌, List, [], ◌∷◌, ◌++◌, All, length, IfOk, IfErr, IfSome, IsSome};
 ghost use Rattle.std.specs.List.{sum_by};
 ghost use Rattle.pq_base.specs.Answers.{or_else};
 ghost use Rattle.pq_base.specs.Columns.{set_of};
@@ -9,23 +9,25 @@ ghost use Rattle.pq_schema.specs.Sound.{IsTable, AreColumns};
 ghost use Rattle.pq_schema.specs.Tables.{table_at};
 ghost use Rattle.pq_schema.specs.declared.table.Table.{Table as Definition};
 ghost use Rattle.pq_content.specs.Pairs.{Pair};
-ghost use Rattle.pq_content.specs.Tables.{Rows, AllOfKinds, key_types, cells, types_of, key_of};
-ghost use Rattle.pq_base.specs.Values.{AllFit};
+ghost use Rattle.pq_content.specs.Tables.{Rows, key_of};
+ghost use Rattle.pq_pending.specs.Tests.{place_among};
+ghost use Rattle.pq_index_keep.specs.Asking.{asks_parent, asks_room, parent_tests, row_tests, test_refusal, own_refusal, IsOwn};
 ghost use Rattle.pq_index_keep.specs.Bounds.{tested_foreign, tested_limits, tested_n_behind, tested_behind, tests};
 ghost use Rattle.pq_index_keep.specs.Effects.{no_parent, no_room, parent_refusal, room_refusal, insert_refusal};
 ghost use Rattle.pq_store.specs.Breaks.{IsAnswered};
 ghost use Rattle.pq_pending.specs.Calls.{Uses, Fails, seen, answers_of};
 ghost use Rattle.pq_calls.specs.World.{Affords, no_damage};
 ghost use Rattle.pq_index_keep.specs.Promises.{HoldsRows, IsTested};
-ghost use Rattle.pq_index_keep.specs.Refusals.{IsInsertRefusal, IsTestRefusal};
+ghost use Rattle.pq_index_keep.specs.Refusals.{IsInsertRefusal, IsTestRefusal, IsAskedRefusal};
+ghost use Rattle.pq_index_keep.specs.Rounds.{test_rounds};
 
-use crate::limits::first_full;
-use crate::parents::first_lacking;
+use crate::limits::{ask_rooms, room_place};
+use crate::parents::{ask_parents, parent_place};
 use crate::write::Scope;
-use pq_base::{NoMem, Refusal, Row};
+use pq_base::{Bytes, List, NoMem, Refusal, Row};
 use pq_pending::PendingCalls;
 use pq_schema::Table;
-use pq_store::{Broke, Store};
+use pq_store::{Broke, Store, Test};
 use std::alloc::Global;
 use std::sync::ledger::Ledger;
 
@@ -53,38 +55,79 @@ pub fn no_room(alloc: Global, table: &Table, place: usize) -> Result<Refusal, No
     })
 }
 
-/// The refusal of the first foreign key that is tested and whose row is not there.
-fn parent_refusal<S: Store<L>, L: Ledger>(
-    alloc: Global,
-    scope: &Scope,
-    table: &Table,
-    row: &Row,
-    calls: &mut PendingCalls<S, L>,
-) -> Result<Option<Refusal>, Broke>
-    requires columns { All (λ f. AreColumns f.cols) table.now.foreign }
-    requires few { length table.now.foreign ≤ 4 }
-    requires share { Affords calls.old.allowance.now (tested_foreign scope.now table.now.foreign)
-        (tested_foreign scope.now table.now.foreign) }
-    ensures uses { Uses S.content S.faults calls.old calls.new (tested_foreign scope.now table.now.foreign)
-        (tested_foreign scope.now table.now.foreign) }
-    ensures cause { IfErr result (Fails no_damage S.content S.faults calls.old calls.new) }
-    ensures answered { IfErr result (IsAnswered (answers_of S.answers calls.old)) }
-    ensures can { IfOk result (λ refusal. IfSome refusal (IsTestRefusal table.now)) }
-    ensures answer { IfOk result (λ refusal. (tables : List Definition) (rows : Rows) (others : List Pair)
-        → HoldsRows (seen S.content calls.old) tables rows others →
-        All (λ f. AllOfKinds (key_types (table_at tables f.table)) (cells f.cols row.now)) table.now.foreign
-        → refusal ≡ parent_refusal tables rows scope.now table.now row.now) }
-{
-    match first_lacking(alloc, scope, table.foreign.items(), row, calls)? {
-        None => Ok(None),
-        Some(place) => Ok(Some(no_parent(alloc, table, place)?)),
-    }
+/// Tests that are asked at once, and the place behind those of foreign keys.
+#[derive(Drop)]
+struct Asked {
+    tests: List<Test>,
+    parents: usize,
 }
 
-/// The refusal of the first limit that is tested, at whose columns the values change, and whose
-/// group has n rows already.
-fn room_refusal<S: Store<L>, L: Ledger>(
+/// The tests that are given, then those of the row's foreign keys, and then those of its limits.
+fn asked_tests(
     alloc: Global,
+    own: List<Test>,
+    scope: &Scope,
+    old: &Option<Row>,
+    number: u8,
+    table: &Table,
+    row: &Row,
+) -> Result<Asked, NoMem>
+    requires table { IsTable table.now }
+    requires columns { All (λ f. AreColumns f.cols) table.now.foreign }
+    requires access { All (λ limit. IsSome (group_access table.now (set_of limit.cols))) table.now.limits }
+    ensures tests { IfOk result (λ made. made.tests ≡ own ++ row_tests scope.now old.now number table.now row.now) }
+    ensures parents { IfOk result (λ made. made.parents
+        ≡ length own + length (parent_tests scope.now row.now table.now.foreign)) }
+{
+    let mut tests = own;
+    ask_parents(alloc, scope, table.foreign.items(), row, &mut tests)?;
+    let parents = tests.items().len();
+    let limits = table.limits.items();
+    ask_rooms(alloc, scope, old, number, table, limits, row, &mut tests)?;
+    Ok(Asked { tests, parents })
+}
+
+/// The refusal of the test at a place: of so many of the row's own key, of those of foreign keys up to another place,
+/// and of those of limits.
+fn test_refusal(
+    alloc: Global,
+    own: usize,
+    parents: usize,
+    scope: &Scope,
+    old: &Option<Row>,
+    table: &Table,
+    row: &Row,
+    at: usize,
+) -> Result<Refusal, NoMem>
+    requires table { IsTable table.now }
+    requires columns { All (λ f. AreColumns f.cols) table.now.foreign }
+    requires few { length table.now.foreign ≤ 4 }
+    requires own { own ≤ parents }
+    requires parent { own ≤ at → at < parents
+        → place_among (asks_parent scope.now row.now) table.now.foreign (at - own) < length table.now.foreign }
+    requires room { parents ≤ at
+        → place_among (asks_room scope.now old.now row.now) table.now.limits (at - parents) < length table.now.limits }
+    ensures { IfOk result (λ refusal. refusal
+        ≡ test_refusal own parents scope.now old.now table.now row.now at) }
+{
+    if at < own {
+        return Ok(Refusal::DuplicateKey {
+            table: table.name.copy(alloc)?,
+        });
+    }
+    if at < parents {
+        let place = parent_place(scope, table.foreign.items(), row, at - own);
+        return no_parent(alloc, table, place);
+    }
+    let place = room_place(scope, old, table.limits.items(), row, at - parents);
+    no_room(alloc, table, place)
+}
+
+/// The refusal of the first test that holds: of those that are given of the row's own key, of its foreign keys, and of
+/// its limits, all asked at once.
+fn first_refusal<S: Store<L>, L: Ledger>(
+    alloc: Global,
+    own: List<Test>,
     scope: &Scope,
     old: &Option<Row>,
     number: u8,
@@ -93,24 +136,42 @@ fn room_refusal<S: Store<L>, L: Ledger>(
     calls: &mut PendingCalls<S, L>,
 ) -> Result<Option<Refusal>, Broke>
     requires table { IsTable table.now }
+    requires columns { All (λ f. AreColumns f.cols) table.now.foreign }
+    requires few { length table.now.foreign ≤ 4 }
     requires access { All (λ limit. IsSome (group_access table.now (set_of limit.cols))) table.now.limits }
     requires some { All (λ limit. 1 ≤ limit.n) table.now.limits }
     requires removers { calls.old.pending.now.removers ≤ 256 }
-    requires share { Affords calls.old.allowance.now (tested_limits scope.now table.now.limits)
-        (sum_by (tested_n_behind calls.old.pending.now.removers scope.now) table.now.limits) }
-    ensures uses { Uses S.content S.faults calls.old calls.new (tested_limits scope.now table.now.limits)
-        (sum_by (tested_n_behind calls.old.pending.now.removers scope.now) table.now.limits) }
+    requires own { IsOwn number table.now row.now own }
+    requires share { Affords calls.old.allowance.now
+        (length own + (tested_foreign scope.now table.now.foreign + tested_limits scope.now table.now.limits))
+        (length own + (tested_foreign scope.now table.now.foreign
+        + sum_by (tested_n_behind calls.old.pending.now.removers scope.now) table.now.limits)) }
+    ensures uses { Uses S.content S.faults calls.old calls.new
+        (length own + (tested_foreign scope.now table.now.foreign + tested_limits scope.now table.now.limits))
+        (length own + (tested_foreign scope.now table.now.foreign
+        + sum_by (tested_n_behind calls.old.pending.now.removers scope.now) table.now.limits)) }
+    ensures rounds { S.rounds calls.new.store.now ≤ S.rounds calls.old.store.now
+        + test_rounds calls.old.pending.now.changes (tested_limits scope.now table.now.limits) }
     ensures cause { IfErr result (Fails no_damage S.content S.faults calls.old calls.new) }
     ensures answered { IfErr result (IsAnswered (answers_of S.answers calls.old)) }
-    ensures can { IfOk result (λ refusal. IfSome refusal (IsTestRefusal table.now)) }
+    ensures can { IfOk result (λ refusal. IfSome refusal (IsAskedRefusal own table.now)) }
     ensures answer { IfOk result (λ refusal. (tables : List Definition) (rows : Rows) (others : List Pair)
         → HoldsRows (seen S.content calls.old) tables rows others → table.now ≡ table_at tables number →
-        AllFit (types_of table.now) row.now → refusal ≡ room_refusal rows scope.now old.now number table.now row.now) }
+        IsTested tables table.now row.now → refusal
+        ≡ or_else (own_refusal tables rows number table.now row.now own)
+        (or_else (parent_refusal tables rows scope.now table.now row.now)
+        (room_refusal rows scope.now old.now number table.now row.now))) }
 {
-    let limits = table.limits.items();
-    match first_full(alloc, scope, old, number, table, limits, row, calls)? {
+    calls.pending.known();
+    let first = own.items().len();
+    let asked = asked_tests(alloc, own, scope, old, number, table, row)?;
+    match calls.first_held(alloc, asked.tests.items())? {
         None => Ok(None),
-        Some(place) => Ok(Some(no_room(alloc, table, place)?)),
+        Some(at) => {
+            let parents = asked.parents;
+            let refusal = test_refusal(alloc, first, parents, scope, old, table, row, at)?;
+            Ok(Some(refusal))
+        }
     }
 }
 
@@ -138,6 +199,8 @@ pub(crate) fn tested_refusal<S: Store<L>, L: Ledger>(
         (tested_foreign scope.now table.now.foreign + tested_limits scope.now table.now.limits)
         (tested_foreign scope.now table.now.foreign
         + sum_by (tested_n_behind calls.old.pending.now.removers scope.now) table.now.limits) }
+    ensures rounds { S.rounds calls.new.store.now ≤ S.rounds calls.old.store.now
+        + test_rounds calls.old.pending.now.changes (tested_limits scope.now table.now.limits) }
     ensures cause { IfErr result (Fails no_damage S.content S.faults calls.old calls.new) }
     ensures answered { IfErr result (IsAnswered (answers_of S.answers calls.old)) }
     ensures can { IfOk result (λ refusal. IfSome refusal (IsTestRefusal table.now)) }
@@ -147,10 +210,18 @@ pub(crate) fn tested_refusal<S: Store<L>, L: Ledger>(
         ≡ or_else (parent_refusal tables rows scope.now table.now row.now)
         (room_refusal rows scope.now old.now number table.now row.now)) }
 {
-    if let Some(refusal) = parent_refusal(alloc, scope, table, row, calls)? {
-        return Ok(Some(refusal));
-    }
-    room_refusal(alloc, scope, old, number, table, row, calls)
+    let own = List::new(alloc);
+    first_refusal(alloc, own, scope, old, number, table, row, calls)
+}
+
+/// The test of a row's own key.
+fn own_tests(alloc: Global, at: &[u8]) -> Result<List<Test>, NoMem>
+    ensures { IfOk result (λ tests. tests ≡ Test.Has at.now ∷ []) }
+{
+    let mut tests = List::new(alloc);
+    let key = Bytes::of_bytes(alloc, at)?;
+    tests.push(alloc, Test::Has(key))?;
+    Ok(tests)
 }
 
 /// Why an INSERT of the row at its key is refused.
@@ -173,6 +244,8 @@ pub(crate) fn insert_refusal<S: Store<L>, L: Ledger>(
         (tested_behind calls.old.pending.now.removers Scope.All table.now).entries }
     ensures uses { Uses S.content S.faults calls.old calls.new (tests Scope.All table.now).ops
         (tested_behind calls.old.pending.now.removers Scope.All table.now).entries }
+    ensures rounds { S.rounds calls.new.store.now ≤ S.rounds calls.old.store.now
+        + test_rounds calls.old.pending.now.changes (tested_limits Scope.All table.now.limits) }
     ensures cause { IfErr result (Fails no_damage S.content S.faults calls.old calls.new) }
     ensures answered { IfErr result (IsAnswered (answers_of S.answers calls.old)) }
     ensures can { IfOk result (λ refusal. IfSome refusal (IsInsertRefusal table.now)) }
@@ -180,10 +253,6 @@ pub(crate) fn insert_refusal<S: Store<L>, L: Ledger>(
         → HoldsRows (seen S.content calls.old) tables rows others → table.now ≡ table_at tables number →
         IsTested tables table.now row.now → refusal ≡ insert_refusal tables rows number row.now) }
 {
-    if calls.has_value(alloc, at)? {
-        let name = table.name.copy(alloc)?;
-        return Ok(Some(Refusal::DuplicateKey { table: name }));
-    }
-    let rest = tested_refusal(alloc, &Scope::All, &None, number, table, row, calls)?;
-    Ok(rest)
+    let own = own_tests(alloc, at)?;
+    first_refusal(alloc, own, &Scope::All, &None, number, table, row, calls)
 }

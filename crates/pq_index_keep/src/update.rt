@@ -21,6 +21,7 @@ ghost use Rattle.pq_calls.specs.Evidence.{IsNoRow};
 ghost use Rattle.pq_calls.specs.World.{Affords, no_damage, where_told};
 ghost use Rattle.pq_index_keep.specs.Promises.{HoldsRows, IsTested, Plans, IsPlannedWithin, ChangesFrom, IsShortWithin, RemovesFew, IsReadFor, FitsItsTable, IsNewFor};
 ghost use Rattle.pq_index_keep.specs.Refusals.{IsUpdateRefusal, RefusesAs};
+ghost use Rattle.pq_index_keep.specs.Rounds.{test_rounds};
 ghost use Rattle.pq_index_keep.specs.Sound.{AreWritable, IsSet, IsUpdate};
 ghost use Rattle.pq_index_keep.specs.declared.write.Cond.{Cond as Condition};
 ghost use Rattle.pq_index_keep.specs.Tested.{touches_index, scope_of, with_sets};
@@ -118,6 +119,8 @@ fn update_refusal<S: Store<L>, L: Ledger>(
         (tested_foreign scope.now table.now.foreign + tested_limits scope.now table.now.limits)
         (tested_foreign scope.now table.now.foreign
         + sum_by (tested_n_behind calls.old.pending.now.removers scope.now) table.now.limits) }
+    ensures rounds { S.rounds calls.new.store.now ≤ S.rounds calls.old.store.now
+        + test_rounds calls.old.pending.now.changes (tested_limits scope.now table.now.limits) }
     ensures cause { IfErr result (Fails no_damage S.content S.faults calls.old calls.new) }
     ensures answered { IfErr result (IsAnswered (answers_of S.answers calls.old)) }
     ensures can { IfOk result (λ refusal. IfSome refusal (IsUpdateRefusal table.now)) }
@@ -171,6 +174,9 @@ fn plan_change<S: Store<L>, L: Ledger>(
         (tested_foreign (scope_of sets.now) (table_at catalog.now.tables number).foreign
         + sum_by (tested_n_behind calls.old.pending.now.removers (scope_of sets.now))
         (table_at catalog.now.tables number).limits) }
+    ensures rounds { S.rounds calls.new.store.now ≤ S.rounds calls.old.store.now
+        + test_rounds calls.old.pending.now.changes
+        (tested_limits (scope_of sets.now) (table_at catalog.now.tables number).limits) }
     ensures cause { IfErr result (Fails no_damage S.content S.faults calls.old calls.new) }
     ensures answered { IfErr result (IsAnswered (answers_of S.answers calls.old)) }
     ensures plan { IfOk result (IsPlannedWithin
@@ -233,6 +239,9 @@ fn plan_held<S: Store<L>, L: Ledger>(
         (tested_foreign (scope_of sets.now) (table_at catalog.now.tables number).foreign
         + sum_by (tested_n_behind calls.old.pending.now.removers (scope_of sets.now))
         (table_at catalog.now.tables number).limits) }
+    ensures rounds { S.rounds calls.new.store.now ≤ S.rounds calls.old.store.now
+        + test_rounds calls.old.pending.now.changes
+        (tested_limits (scope_of sets.now) (table_at catalog.now.tables number).limits) }
     ensures cause { IfErr result (Fails no_damage S.content S.faults calls.old calls.new) }
     ensures answered { IfErr result (IsAnswered (answers_of S.answers calls.old)) }
     ensures plan { IfOk result (λ made. IsPlannedWithin
@@ -285,6 +294,9 @@ pub(crate) fn plan_update<S: Store<L>, L: Ledger>(
         (tests (scope_of sets.now) (table_at catalog.now.tables number)).ops
         (tested_behind calls.old.pending.now.removers (scope_of sets.now)
         (table_at catalog.now.tables number)).entries }
+    ensures rounds { S.rounds calls.new.store.now ≤ S.rounds calls.old.store.now
+        + (1 + test_rounds calls.old.pending.now.changes
+        (tested_limits (scope_of sets.now) (table_at catalog.now.tables number).limits)) }
     ensures cause { IfErr result (Fails (where_told (IsNoRow catalog.now.tables)) S.content S.faults calls.old
         calls.new) }
     ensures answered { IfErr result (IsAnswered (answers_of S.answers calls.old)) }

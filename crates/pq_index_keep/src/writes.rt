@@ -1,5 +1,5 @@
 //! The plan of any write.
-ghost use Rattle.std.specs.Prelude.{◌≡◌, ◌≤◌, List, IfOk, IfErr, IfSome};
+ghost use Rattle.std.specs.Prelude.{◌≡◌, ◌≤◌, ◌+◌, List, IfOk, IfErr, IfSome};
 ghost use Rattle.pq_content.specs.Pairs.{Pair};
 ghost use Rattle.pq_content.specs.Standing.{write_ops};
 ghost use Rattle.pq_content.specs.Tables.{Rows};
@@ -11,6 +11,7 @@ ghost use Rattle.pq_calls.specs.Evidence.{IsNoRow};
 ghost use Rattle.pq_calls.specs.World.{world, Affords, Reads, Explains, where_told};
 ghost use Rattle.pq_index_keep.specs.Promises.{HoldsRows, Plans, IsPlannedWithin, ChangesFrom, ChangesOwn, IsShortWithin, RemovesFew, IsReadFor, FitsItsTable, IsNewFor};
 ghost use Rattle.pq_index_keep.specs.Refusals.{RefusesAs};
+ghost use Rattle.pq_index_keep.specs.Rounds.{write_rounds, alone_rounds};
 ghost use Rattle.pq_index_keep.specs.Sound.{AreWritable, IsWrite};
 
 use crate::plan::{Planned, PlannedWrite, plan_delete, plan_insert};
@@ -38,6 +39,8 @@ fn plan_by<S: Store<L>, L: Ledger>(
     ensures uses { Uses S.content S.faults calls.old calls.new
         (tests_behind calls.old.pending.now.removers catalog.now.tables write.now).ops
         (tests_behind calls.old.pending.now.removers catalog.now.tables write.now).entries }
+    ensures rounds { S.rounds calls.new.store.now ≤ S.rounds calls.old.store.now
+        + write_rounds calls.old.pending.now.changes catalog.now.tables write.now }
     ensures cause { IfErr result (Fails (where_told (IsNoRow catalog.now.tables)) S.content S.faults calls.old
         calls.new) }
     ensures answered { IfErr result (IsAnswered (answers_of S.answers calls.old)) }
@@ -108,6 +111,8 @@ pub fn plan_with_rows<S: Store<L>, L: Ledger>(
         (world (seen_content pending.now.changes (S.content store.new)) (S.faults store.new) allowance.new meter.new)
         (tests_behind pending.now.removers catalog.now.tables write.now).ops
         (tests_behind pending.now.removers catalog.now.tables write.now).entries }
+    ensures rounds { S.rounds store.new ≤ S.rounds store.old
+        + write_rounds pending.now.changes catalog.now.tables write.now }
     ensures cause { IfErr result (Explains (where_told (IsNoRow catalog.now.tables))
         (world (seen_content pending.now.changes (S.content store.old)) (S.faults store.old) allowance.old meter.old)
         (world (seen_content pending.now.changes (S.content store.new)) (S.faults store.new) allowance.new meter.new)) }
@@ -157,6 +162,7 @@ pub fn plan_write<S: Store<L>, L: Ledger>(
         (world (S.content store.new) (S.faults store.new) allowance.new meter.new)
         (write_tests catalog.now.tables write.now).ops (write_tests catalog.now.tables write.now).entries }
     ensures left { Affords allowance.new (write_ops (most_changes catalog.now.tables write.now)) 0 }
+    ensures rounds { S.rounds store.new ≤ S.rounds store.old + alone_rounds write.now }
     ensures cause { IfErr result (Explains (where_told (IsNoRow catalog.now.tables))
         (world (S.content store.old) (S.faults store.old) allowance.old meter.old)
         (world (S.content store.new) (S.faults store.new) allowance.new meter.new)) }

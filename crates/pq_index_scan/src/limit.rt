@@ -13,6 +13,7 @@ ghost use Rattle.pq_plan.specs.Cost.{is_primary_access};
 ghost use Rattle.pq_nodes.specs.Combos.{FitsTables};
 ghost use Rattle.pq_nodes.specs.Operators.{IsAsked, IsReadyNode, AreInputs, AffordsNode, ReadsNode, AreFound, AnswersNode, ShowsRead, StopsReading, IsSoundOverRows};
 ghost use Rattle.pq_nodes.specs.Paid.{node_cost};
+ghost use Rattle.pq_nodes.specs.Rounds.{access_rounds, node_rounds};
 ghost use Rattle.pq_operands.specs.Ties.{cells_tied};
 ghost use Rattle.pq_entries.specs.Entries.{IsSequence, OfEachRange, IsUnread, OneShows, TellsPair, key_front};
 ghost use Rattle.pq_index_scan.specs.Ranged.{limit_node, first_of_range, ends_behind, IsRangeOf, IsPartBehind, FollowsPart, AddsPart, AreEntriesBehind, AreFollowed, AreRanged, followed_at, AddsRanged};
@@ -167,6 +168,7 @@ fn all_parts<S: Store<L>, L: Ledger>(
     ensures uses { Uses S.content S.faults calls.old calls.new (length inputs.now) (length inputs.now * range.now.n) }
     ensures cause { IfErr result (Fails (where_told (ShowsRead catalog.now.tables)) S.content S.faults calls.old
         calls.new) }
+    ensures rounds { S.rounds calls.new.store.now ≤ S.rounds calls.old.store.now + 1 }
     ensures answered { IfErr result (IsAnswered S.answers) }
     ensures long { IfOk result (λ parts. length parts ≡ length inputs.now) }
     ensures parts { IfOk result (AllZip (IsPartBehind (S.content calls.old.store.now) catalog.now.tables query.now
@@ -239,6 +241,7 @@ fn range_primary<S: Store<L>, L: Ledger>(
     ensures uses { Uses S.content S.faults calls.old calls.new (length inputs.now) (length inputs.now * range.now.n) }
     ensures cause { IfErr result (Fails (where_told (ShowsRead catalog.now.tables)) S.content S.faults calls.old
         calls.new) }
+    ensures rounds { S.rounds calls.new.store.now ≤ S.rounds calls.old.store.now + 1 }
     ensures answered { IfErr result (IsAnswered S.answers) }
     ensures few { IfOk result (λ found. length found ≤ length inputs.now * range.now.n) }
     ensures fit { IfOk result (AllByRecursion (FitsTables catalog.now.tables query.now range.now.rel)) }
@@ -324,6 +327,7 @@ fn range_entries<S: Store<L>, L: Ledger>(
     ensures uses { Uses S.content S.faults calls.old calls.new (length inputs.now) (length inputs.now * range.now.n) }
     ensures cause { IfErr result (Fails (where_told (ShowsRead catalog.now.tables)) S.content S.faults calls.old
         calls.new) }
+    ensures rounds { S.rounds calls.new.store.now ≤ S.rounds calls.old.store.now + 1 }
     ensures answered { IfErr result (IsAnswered S.answers) }
     ensures entries { IfOk result (AreEntriesBehind (S.content calls.old.store.now) catalog.now.tables query.now
         params.now range.now inputs.now inputs.now) }
@@ -383,6 +387,7 @@ fn range_secondary<S: Store<L>, L: Ledger>(
         (length inputs.now * range.now.n + length inputs.now * range.now.n) }
     ensures cause { IfErr result (Fails (where_told (ShowsRead catalog.now.tables)) S.content S.faults calls.old
         calls.new) }
+    ensures rounds { S.rounds calls.new.store.now ≤ S.rounds calls.old.store.now + 2 }
     ensures answered { IfErr result (IsAnswered S.answers) }
     ensures few { IfOk result (λ found. length found ≤ length inputs.now * range.now.n) }
     ensures fit { IfOk result (AllByRecursion (FitsTables catalog.now.tables query.now range.now.rel)) }
@@ -418,6 +423,7 @@ fn range_each<S: Store<L>, L: Ledger>(
         (length inputs.now * (limit_cost (is_primary_access range.now.access) range.now.n).entries) }
     ensures cause { IfErr result (Fails (where_told (ShowsRead catalog.now.tables)) S.content S.faults calls.old
         calls.new) }
+    ensures rounds { S.rounds calls.new.store.now ≤ S.rounds calls.old.store.now + access_rounds range.now.access }
     ensures answered { IfErr result (IsAnswered S.answers) }
     ensures few { IfOk result (λ found. length found ≤ length inputs.now * range.now.n) }
     ensures fit { IfOk result (AllByRecursion (FitsTables catalog.now.tables query.now range.now.rel)) }
@@ -458,6 +464,8 @@ fn run_range<S: Store<L>, L: Ledger>(
         (node_cost (length inputs.now) (limit_node catalog.now.tables query.now rel limit access)).entries }
     ensures cause { IfErr result (Fails (where_told (ShowsRead catalog.now.tables)) S.content S.faults calls.old
         calls.new) }
+    ensures rounds { S.rounds calls.new.store.now ≤ S.rounds calls.old.store.now
+        + node_rounds (limit_node catalog.now.tables query.now rel limit access) }
     ensures answered { IfErr result (IsAnswered S.answers) }
     ensures found { IfOk result (AreFound catalog.now.tables query.now rel (length inputs.now)
         (limit_node catalog.now.tables query.now rel limit access)) }
@@ -507,6 +515,8 @@ pub fn limit_range<S: Store<L>, L: Ledger>(
     ensures cause { IfErr result (StopsReading catalog.now.tables
         (world (S.content store.old) (S.faults store.old) allowance.old meter.old)
         (world (S.content store.new) (S.faults store.new) allowance.new meter.new)) }
+    ensures rounds { S.rounds store.new ≤ S.rounds store.old
+        + node_rounds (limit_node catalog.now.tables query.now rel limit access) }
     ensures answered { IfErr result (IsAnswered S.answers) }
     ensures undamaged { IfErr result (IsSoundOverRows (S.content store.old) catalog.now.tables) }
 {

@@ -1,9 +1,10 @@
 -- What a commit and a settling leave, at whichever call they stop.
-use Rattle.std.proofs.Common.{◌≡◌, ℕ, ◌≤◌, ◌<◌, length, get_or, arith, List, [], ◌∷◌, ◌++◌, map, take, Option, Some, None, cond, refl, sym, ap, ◌∙◌, subst, ◌⊎◌, inl, inr}
-use Rattle.std.specs.Prelude.{MatchOption, Bool, false, is_none, IfSome}
+use Rattle.std.proofs.Common.{◌≡◌, ℕ, suc, ◌≤◌, ◌<◌, length, get_or, arith, List, [], ◌∷◌, ◌++◌, map, take, Option, Some, None, cond, refl, sym, ap, ◌∙◌, subst, ◌⊎◌, inl, inr}
+use Rattle.std.specs.Prelude.{MatchOption, Bool, false, true, is_none, IfSome, if◌then◌else◌}
+use Rattle.std.specs.Option.{option_map}
 use Rattle.std.proofs.lemmas.Bool.{false≢true}
 use Rattle.pq_store.specs.declared.store.Guard.TheVariants.{Absent}
-use Rattle.pq_store.specs.Content.{admits, Content}
+use Rattle.pq_store.specs.Content.{admits, after_write, written_content, Content}
 use Rattle.pq_store.specs.Breaks.{IsPresent}
 use Rattle.std.proofs.lemmas.Option.{same_Some, none-some}
 use Rattle.std.specs.Cmp.Lexicographic.{nat_list_cmp_total}
@@ -15,9 +16,9 @@ use Rattle.pq_content.specs.Standing.{change_of, AreIntended, IsIntent, SettlesT
 use Rattle.pq_key_code.specs.KeyCode.{intent_key}
 use Rattle.pq_content.proofs.Keys.{key_itself}
 use Rattle.pq_content.proofs.Settling.{settles_partway, settled_at_last, settles_again, settles_once, settles_to_itself, intent_found, no_intent_after}
-use Rattle.pq_intent.specs.Changing.{content_after, IsPartway, MayChange}
-use Rattle.pq_intent.specs.Settling.{IsIntentOf, IsNoIntent, IsSettled, Settles, LeavesSettled, StopsSettling}
-use Rattle.pq_intent.proofs.Steps.{after-append, take_split}
+use Rattle.pq_intent.specs.Changing.{content_after, commit_writes, intent_writes, IsPartway, MayChange}
+use Rattle.pq_intent.specs.Settling.{IsIntentOf, IsNoIntent, IsSettled, Settles, HasIntent, LeavesSettled, StopsSettling}
+use Rattle.pq_intent.proofs.Steps.{after_none, after-append, partway_last, take_split}
 
 -- the changes of an intent, and its removal
 abbrev pub with_removal : List Coded → List Change
@@ -73,6 +74,28 @@ there_already (Some c) key k done is same refused answer =
     let v = some_of (get c intent_key) (ap (λ (q : List ℕ). is_none (get c q)) (sym (same ∙ is)) ∙ sym answer ∙ refused) in
     record { value = v.0; at = is; has = refl; there = v.1 }
 
+-- it was put, whatever else the content had
+pub put_made : (old new : Option Content) (k v : List ℕ) (done : Bool) → done ≡ true → k ≡ intent_key → IfSome old (λ pairs. done ≡ admits Absent (get pairs k)) → new ≡ option_map (after_write Absent k (Some v)) old
+    → new ≡ option_map (written_content intent_key (Some v)) old
+put_made None new k v done holds same answer is = is
+put_made (Some c) new k v done holds same answer is = is ∙ ap (λ (b : Bool). Some (if b then insert c k v else c)) (sym answer ∙ holds) ∙ ap (λ (q : List ℕ). Some (insert c q v)) same
+
+no_intent_in : (c : Content) (found : Option (List ℕ)) → get c intent_key ≡ found → (HasIntent (Some c) → ⊥) → get c intent_key ≡ None
+no_intent_in c None found taken = found
+no_intent_in c (Some v) found taken = absurd (taken (record { pairs = c; told = refl; value = v; found = found }))
+
+-- what is made over an intent that could be put is all of it
+pub whole_made : (cs : List Coded) (old mid new : Option Content) (v : List ℕ) → AreChanges cs → AreIntended (map change_of cs) → (HasIntent old → ⊥) → ((pairs : Content) → IsSettled old pairs → mid ≡ Some (insert pairs intent_key v))
+    → new ≡ content_after (with_removal cs) mid → IfSome old (λ pairs. new ≡ Some (changed_content (map change_of cs) pairs))
+whole_made cs None mid new v coded intended taken put made = tt
+whole_made cs (Some c) mid new v coded intended taken put made =
+    let none = no_intent_in c (get c intent_key) refl taken in
+    commit_made c cs none coded intended mid new v (put c (record { told = refl; no_intent = none })) made
+
+-- partway behind the first one
+pub partway_behind : (x : Change) (xs : List Change) (old mid new : Option Content) → mid ≡ content_after (x ∷ []) old → IsPartway xs mid new → IsPartway (x ∷ xs) old new
+partway_behind x xs old mid new made p = record { made = suc p.made; is = p.is ∙ ap (content_after (take p.made xs)) made ∙ sym (after-append (x ∷ []) (take p.made xs) old) }
+
 -- one change is made or not
 pub one_stopped : (c : Content) (x : Coded) (old new : Option Content) → IsSettled old c → AreIntended (map change_of (x ∷ [])) → MayChange (change_of x) old new → Settles new c ⊎ Settles new (changed_content (map change_of (x ∷ [])) c)
 one_stopped c x old new s intended (inl same) = inl (settles_itself new c (same ∙ s.told) s.no_intent)
@@ -82,6 +105,22 @@ single : (cs : List Coded) (x : Coded) → 1 ≤ length cs → length cs < 2 →
 single [] x some few is = absurd (omega arith)
 single (y ∷ []) x some few is = ap (λ (z : Coded). z ∷ []) (sym is)
 single (y ∷ z ∷ cs) x some few is = absurd (omega arith)
+
+pub single_is : (cs items : List Coded) (x : Coded) → items ≡ cs → 1 ≤ length items → length items < 2 → x ≡ get_or items 0 x → cs ≡ x ∷ []
+single_is cs items x same some few at = sym same ∙ single items x some few at
+
+pub single_whole : (cs : List Coded) (x : Coded) (old new : Option Content) → cs ≡ x ∷ [] → new ≡ option_map (written_content x.key x.new) old → IfSome old (λ pairs. new ≡ Some (changed_content (map change_of cs) pairs))
+single_whole cs x None new is made = tt
+single_whole cs x (Some c) new is made = made ∙ ap (λ (l : List Coded). Some (changed_content (map change_of l) c)) (sym is)
+
+pub single_partway : (cs : List Coded) (x : Coded) (old new : Option Content) → cs ≡ x ∷ [] → MayChange (change_of x) old new → IsPartway (commit_writes cs) old new
+single_partway cs x old new is may = subst (λ (l : List Coded). IsPartway (commit_writes l) old new) (sym is) (partway_last [] (change_of x) old old new (sym (after_none old)) may)
+
+-- more changes are made by an intent
+pub more_writes : (cs : List Coded) → 2 ≤ length cs → commit_writes cs ≡ intent_writes cs
+more_writes [] more = absurd (omega arith)
+more_writes (x ∷ []) more = absurd (omega arith)
+more_writes (x ∷ y ∷ cs) more = refl
 
 pub single_stopped : (cs items : List Coded) (x : Coded) (old new : Option Content) → items ≡ cs → 1 ≤ length items → length items < 2 → x ≡ get_or items 0 x → AreIntended (map change_of cs) → MayChange (change_of x) old new
     → (c : Content) → IsSettled old c → Settles new c ⊎ Settles new (changed_content (map change_of cs) c)

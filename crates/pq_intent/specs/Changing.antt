@@ -39,6 +39,12 @@ WantsMemory writes before after old new =
 abbrev pub intent_writes : List Coded → List Change
 intent_writes changes = (intent_key, Some (changes_code changes)) ∷ (map change_of changes ++ (intent_key, None) ∷ [])
 
+-- the writes of a commit: of one change that one alone, and of more of them those by an intent
+abbrev pub commit_writes : List Coded → List Change
+commit_writes [] = []
+commit_writes (change ∷ []) = change_of change ∷ []
+commit_writes (change ∷ more ∷ rest) = intent_writes (change ∷ more ∷ rest)
+
 -- where damage is told, the content is as it was
 abbrev pub IfDamagedSame : Option Content → Option Content → Broke → Type 0
 IfDamagedSame old new = IfDamaged (λ damage. new ≡ old)

@@ -1,13 +1,14 @@
 //! Committing changes: all of them or none, whichever call of the store is the last one.
 ghost use Rattle.std.specs.Prelude.{◌≡◌, ◌≤◌, ◌<◌, ◌+◌, ◌⊎◌, None, Some, length, map, IfOk, IfErr, IfSome, IsErr, IsErrOf, OnOk, OnErr};
 ghost use Rattle.std.specs.FinMap.{insert};
+ghost use Rattle.std.specs.Option.{option_map};
 ghost use Rattle.pq_row_code.specs.Changes.{AreChanges};
 ghost use Rattle.pq_content.specs.Pairs.{changed_content};
 ghost use Rattle.pq_content.specs.Standing.{change_of, AreIntended};
 ghost use Rattle.pq_key_code.specs.KeyCode.{intent_key};
-ghost use Rattle.pq_store.specs.Content.{HasBrokeCause, Content};
+ghost use Rattle.pq_store.specs.Content.{HasBrokeCause, Content, written_content};
 ghost use Rattle.pq_store.specs.Breaks.{IfDamaged, IsPresent, IsUndamaged, IsAnswered};
-ghost use Rattle.pq_intent.specs.Changing.{IfDamagedSame, WantsMemory, intent_writes};
+ghost use Rattle.pq_intent.specs.Changing.{IfDamagedSame, IsPartway, MayChange, WantsMemory, commit_writes, intent_writes};
 ghost use Rattle.pq_intent.specs.Settling.{IsSettled, Settles, HasIntent};
 ghost use Rattle.pq_intent.specs.Spending.{Spends, write_ops};
 
@@ -40,6 +41,10 @@ fn put_intent<S: Store<L>, L: Ledger>(
         (λ pairs. IfDamaged (IsPresent intent_key pairs) broke)) }
     ensures kept { IfErr result (IfDamagedSame (S.content store.old) (S.content store.new)) }
     ensures memory { IsErrOf result Broke.NoMem → S.content store.new ≡ S.content store.old }
+    ensures made { OnOk result (S.content store.new
+        ≡ option_map (written_content intent_key (Some code.now)) (S.content store.old)) }
+    ensures partway { OnErr result (MayChange (intent_key, Some code.now) (S.content store.old) (S.content store.new)) }
+    ensures rounds { S.rounds store.new ≤ S.rounds store.old + 1 }
     ensures one { meter.new.ops ≡ meter.old.ops + 1 }
     ensures spends { Spends 1 allowance.old allowance.new meter.old meter.new }
     ensures cause { HasBrokeCause (S.faults store.old) (S.faults store.new) result }
@@ -75,6 +80,10 @@ fn commit_by_intent<S: Store<L>, L: Ledger>(
     ensures kept { IfErr result (IfDamagedSame (S.content store.old) (S.content store.new)) }
     ensures memory { IsErrOf result Broke.NoMem → (pairs : Content) → IsSettled (S.content store.old) pairs
         → WantsMemory (intent_writes changes.now) meter.old meter.new (S.content store.old) (S.content store.new) }
+    ensures whole { OnOk result (IfSome (S.content store.old) (λ pairs.
+        S.content store.new ≡ Some (changed_content (map change_of changes.now) pairs))) }
+    ensures partway { OnErr result (IsPartway (intent_writes changes.now) (S.content store.old) (S.content store.new)) }
+    ensures rounds { S.rounds store.new ≤ S.rounds store.old + (length changes.now + 2) }
     ensures spends { Spends (length changes.now + 2) allowance.old allowance.new meter.old meter.new }
     ensures cause { HasBrokeCause (S.faults store.old) (S.faults store.new) result }
     ensures answered { IfErr result (IsAnswered S.answers) }
@@ -116,7 +125,12 @@ pub fn commit<S: Store<L>, L: Ledger>(
     // store was not made for it: each write before that one is made. (A single change is one call.)
     ensures memory { IsErrOf result Broke.NoMem → (pairs : Content) → IsSettled (S.content store.old) pairs
         → WantsMemory (intent_writes changes) meter.old meter.new (S.content store.old) (S.content store.new) }
+    // Over any content that is told, with an intent or without one: all of it is made, or a first part of its writes.
+    ensures whole { OnOk result (IfSome (S.content store.old) (λ pairs.
+        S.content store.new ≡ Some (changed_content (map change_of changes) pairs))) }
+    ensures partway { OnErr result (IsPartway (commit_writes changes) (S.content store.old) (S.content store.new)) }
     // Over every store, told or not, and also on an error.
+    ensures rounds { S.rounds store.new ≤ S.rounds store.old + write_ops (length changes) }
     ensures spends { Spends (write_ops (length changes)) allowance.old allowance.new meter.old meter.new }
     ensures cause { HasBrokeCause (S.faults store.old) (S.faults store.new) result }
     ensures answered { IfErr result (IsAnswered S.answers) }

@@ -30,6 +30,7 @@ pub fn put<S: Store<L>, L: Ledger>(
     ensures memory { IsErrOf result Broke.NoMem → S.content store.new ≡ S.content store.old }
     ensures spends { Spends 1 allowance.old allowance.new meter.old meter.new }
     ensures one { meter.new.ops ≡ meter.old.ops + 1 }
+    ensures rounds { S.rounds store.new ≤ S.rounds store.old + 1 }
     ensures cause { HasBrokeCause (S.faults store.old) (S.faults store.new) result }
     ensures answered { IfErr result (IsAnswered S.answers) }
 {
@@ -56,6 +57,7 @@ pub fn write_change<S: Store<L>, L: Ledger>(
     ensures memory { IsErrOf result Broke.NoMem → S.content store.new ≡ S.content store.old }
     ensures spends { Spends 1 allowance.old allowance.new meter.old meter.new }
     ensures one { meter.new.ops ≡ meter.old.ops + 1 }
+    ensures rounds { S.rounds store.new ≤ S.rounds store.old + 1 }
     ensures cause { HasBrokeCause (S.faults store.old) (S.faults store.new) result }
     ensures answered { IfErr result (IsAnswered S.answers) }
 {
@@ -82,6 +84,7 @@ pub fn write_changes<S: Store<L>, L: Ledger>(
         meter.old meter.new (S.content store.old) (S.content store.new) }
     ensures spends { Spends (length changes.now) allowance.old allowance.new meter.old meter.new }
     ensures each { OnOk result (meter.new.ops ≡ meter.old.ops + length changes.now) }
+    ensures rounds { S.rounds store.new ≤ S.rounds store.old + length changes.now }
     ensures cause { HasBrokeCause (S.faults store.old) (S.faults store.new) result }
     ensures answered { IfErr result (IsAnswered S.answers) }
 {
@@ -110,6 +113,7 @@ pub fn finish<S: Store<L>, L: Ledger>(
         meter.old meter.new (S.content store.old) (S.content store.new) }
     ensures spends { Spends (length changes.now + 1) allowance.old allowance.new meter.old meter.new }
     ensures each { OnOk result (meter.new.ops ≡ meter.old.ops + (length changes.now + 1)) }
+    ensures rounds { S.rounds store.new ≤ S.rounds store.old + (length changes.now + 1) }
     ensures cause { HasBrokeCause (S.faults store.old) (S.faults store.new) result }
     ensures answered { IfErr result (IsAnswered S.answers) }
 {

@@ -10,7 +10,7 @@ ghost use Rattle.pq_mem_store.specs.Split.{first_late, is_from};
 use crate::late_pairs::LatePairs;
 use crate::pair_tree::PairTree;
 use pq_base::{Bytes, List, NoMem};
-use pq_store::{Guard, Meter, Pair, Store, StoreErr, rise};
+use pq_store::{Allowance, Ends, Guard, Meter, Pair, Store, StoreErr, Test, rise};
 use std::alloc::Global;
 use std::marker::Model;
 use std::sync::ledger::Ledger;
@@ -311,5 +311,36 @@ impl<L: Ledger> Store<L> for MemStore {
             Ok(()) => Ok(true),
             Err(_) => Err(StoreErr::NoMem),
         }
+    }
+
+    fn gets(
+        &mut self,
+        alloc: Global,
+        keys: &[Option<Bytes>],
+        allowance: &mut Allowance,
+        meter: &mut Meter<L>,
+    ) -> Result<List<Option<Bytes>>, StoreErr> {
+        self.gets_singly(alloc, keys, allowance, meter)
+    }
+
+    fn ranges(
+        &mut self,
+        alloc: Global,
+        asks: &[Option<Ends>],
+        limit: u32,
+        allowance: &mut Allowance,
+        meter: &mut Meter<L>,
+    ) -> Result<List<List<Pair>>, StoreErr> {
+        self.ranges_singly(alloc, asks, limit, allowance, meter)
+    }
+
+    fn first_held(
+        &mut self,
+        alloc: Global,
+        tests: &[Test],
+        allowance: &mut Allowance,
+        meter: &mut Meter<L>,
+    ) -> Result<Option<usize>, StoreErr> {
+        self.first_held_singly(alloc, tests, allowance, meter)
     }
 }

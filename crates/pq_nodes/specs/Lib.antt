@@ -3,4 +3,5 @@ pub mod Inverse
 pub mod Operators
 pub mod Ordered
 pub mod Paid
+pub mod Rounds
 pub mod Tied

@@ -1,9 +1,13 @@
 //! The answer of a query that is run once, which no definition has.
-ghost use Rattle.std.specs.Prelude.{◌≡◌, ◌<◌, [], length, IfOk, IfErr, IfSome};
+ghost use Rattle.std.specs.Prelude.{◌≡◌, ◌<◌, ◌≤◌, ◌+◌, [], length, None, IfOk, IfErr, IfSome};
+ghost use Rattle.std.specs.List.{AllByRecursion};
+ghost use Rattle.pq_base.specs.Values.{AllFit};
 ghost use Rattle.pq_store.specs.Breaks.{IfDamaged, IsAnswered};
 ghost use Rattle.pq_store.specs.Content.{HasBrokeCause};
 ghost use Rattle.pq_calls.specs.World.{where_told};
+ghost use Rattle.pq_nodes.specs.Combos.{selected_types};
 ghost use Rattle.pq_nodes.specs.Operators.{IsAsked, ShowsRead, IsSoundOverRows};
+ghost use Rattle.pq_nodes.specs.Rounds.{plan_rounds};
 ghost use Rattle.pq_exec.specs.Execution.{RisesByUsed, RisesWithin};
 ghost use Rattle.pq_plan.specs.Cost.{cost};
 ghost use Rattle.pq_runnable.specs.Runnable.{IsRunnablePlan};
@@ -44,12 +48,16 @@ pub fn run_once<S: Store<L>, L: Ledger>(
         page)) }
     // Over every store.
     ensures few { IfOk result (λ page. length page.rows < 4294967296) }
+    ensures fit { IfOk result (λ page. AllByRecursion
+        (AllFit (selected_types catalog.now.tables query.now)) page.rows) }
+    ensures last { IfOk result (λ page. page.next ≡ None) }
     ensures bound { IfOk result (λ page. page.bound ≡ query_bound catalog.now.tables query.now) }
     ensures used { IfOk result (λ page. RisesByUsed page.used meter.old meter.new) }
     ensures within { RisesWithin (query_bound catalog.now.tables query.now) meter.old meter.new }
     ensures content { S.content store.new ≡ S.content store.old }
     ensures damage { IfErr result (IfDamaged (where_told (ShowsRead catalog.now.tables) (S.content store.old))) }
     ensures cause { HasBrokeCause (S.faults store.old) (S.faults store.new) result }
+    ensures rounds { S.rounds store.new ≤ S.rounds store.old + plan_rounds plan.now }
     ensures answered { IfErr result (IsAnswered S.answers) }
 {
     let params = Row::new(alloc);

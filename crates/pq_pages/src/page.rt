@@ -1,5 +1,6 @@
 //! The page of a query's answer.
-ghost use Rattle.std.specs.Prelude.{◌≡◌, ◌<◌, length, option_copied, IfOk, IfErr, IfSome};
+ghost use Rattle.std.specs.Prelude.{◌≡◌, ◌<◌, ◌≤◌, ◌+◌, length, option_copied, IfOk, IfErr, IfSome};
+ghost use Rattle.std.specs.List.{AllByRecursion};
 ghost use Rattle.pq_base.specs.Values.{AllFit};
 ghost use Rattle.pq_schema.specs.Schema.{query_at};
 ghost use Rattle.pq_store.specs.Breaks.{IfDamaged, IsAnswered};
@@ -10,7 +11,8 @@ ghost use Rattle.pq_exec.specs.Execution.{RisesByUsed, RisesWithin};
 ghost use Rattle.pq_plan.specs.Cost.{cost};
 ghost use Rattle.pq_runnable.specs.Runnable.{IsRunnablePlan};
 ghost use Rattle.pq_cursor.specs.Cursors.{cursor_text};
-ghost use Rattle.pq_nodes.specs.Combos.{position_types};
+ghost use Rattle.pq_nodes.specs.Combos.{position_types, selected_types};
+ghost use Rattle.pq_nodes.specs.Rounds.{plan_rounds};
 ghost use Rattle.pq_schema.specs.Resolved.{IsResolved};
 ghost use Rattle.pq_running.specs.Running.{IsQueryNumber, next_cursor, position_dirs, query_bound, running_with};
 ghost use Rattle.pq_pages.specs.Paging.{IsPageIn, IsPageOf};
@@ -102,12 +104,15 @@ pub fn run_page<S: Store<L>, L: Ledger>(
         (running_with number (query_at catalog.now number) params.now (option_copied after.entry)) plan.now page)) }
     // Over every store.
     ensures few { IfOk result (λ page. length page.rows < 4294967296) }
+    ensures fit { IfOk result (λ page. AllByRecursion
+        (AllFit (selected_types catalog.now.tables (query_at catalog.now number))) page.rows) }
     ensures bound { IfOk result (λ page. page.bound ≡ query_bound catalog.now.tables (query_at catalog.now number)) }
     ensures used { IfOk result (λ page. RisesByUsed page.used meter.old meter.new) }
     ensures within { RisesWithin (query_bound catalog.now.tables (query_at catalog.now number)) meter.old meter.new }
     ensures content { S.content store.new ≡ S.content store.old }
     ensures damage { IfErr result (IfDamaged (where_told (ShowsRead catalog.now.tables) (S.content store.old))) }
     ensures cause { HasBrokeCause (S.faults store.old) (S.faults store.new) result }
+    ensures rounds { S.rounds store.new ≤ S.rounds store.old + plan_rounds plan.now }
     ensures answered { IfErr result (IsAnswered S.answers) }
 {
     catalog.known();

@@ -12,7 +12,7 @@ use crate::part::Part;
 use crate::placing::are_placed;
 use crate::tally::Tally;
 use pq_base::{Bytes, List, NoMem};
-use pq_store::{Guard, Meter, Pair, Store, StoreErr};
+use pq_store::{Allowance, Ends, Guard, Meter, Pair, Store, StoreErr, Test};
 use std::alloc::Global;
 use std::marker::Model;
 use std::sync::ledger::Ledger;
@@ -395,5 +395,36 @@ impl<S: Store<N>, N: Ledger, L: Ledger> Store<L> for PartStore<S, N> {
         let at = self.place(key);
         self.tally
             .write(alloc, &mut self.parts[at].store, key, guard, new)
+    }
+
+    fn gets(
+        &mut self,
+        alloc: Global,
+        keys: &[Option<Bytes>],
+        allowance: &mut Allowance,
+        meter: &mut Meter<L>,
+    ) -> Result<List<Option<Bytes>>, StoreErr> {
+        self.gets_singly(alloc, keys, allowance, meter)
+    }
+
+    fn ranges(
+        &mut self,
+        alloc: Global,
+        asks: &[Option<Ends>],
+        limit: u32,
+        allowance: &mut Allowance,
+        meter: &mut Meter<L>,
+    ) -> Result<List<List<Pair>>, StoreErr> {
+        self.ranges_singly(alloc, asks, limit, allowance, meter)
+    }
+
+    fn first_held(
+        &mut self,
+        alloc: Global,
+        tests: &[Test],
+        allowance: &mut Allowance,
+        meter: &mut Meter<L>,
+    ) -> Result<Option<usize>, StoreErr> {
+        self.first_held_singly(alloc, tests, allowance, meter)
     }
 }

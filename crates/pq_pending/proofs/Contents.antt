@@ -10,15 +10,10 @@ use Rattle.pq_content.proofs.Changes.{same_content, after, get-changed}
 use Rattle.pq_content.proofs.Keys.{same_key}
 use Rattle.pq_store.specs.Content.{Content, key_cmp, written_content}
 use Rattle.pq_store.specs.declared.damage.Broke.{Broke}
-use Rattle.pq_pending.specs.Pending.{with_change, with_changes, changed_value, AreDistinct, seen_content}
+use Rattle.pq_pending.specs.Pending.{with_change, with_changes, changed_value, value_or, AreDistinct, seen_content}
 
 pub turned : (a b : List ℕ) → eq_by_cmp key_cmp a b ≡ eq_by_cmp key_cmp b a
 turned = (eq_by_cmp_equiv nat_list_cmp_total).symm
-
--- what a key has: what a change gives it, or what it had
-abbrev pub value_or : Option (Option (List ℕ)) → Option (List ℕ) → Option (List ℕ)
-value_or None old = old
-value_or (Some new) old = new
 
 pub after_distinct : (changes : List Change) → AreDistinct changes → (key : List ℕ) (old : Option (List ℕ)) → after changes key old ≡ value_or (changed_value changes key) old
 after_distinct [] apart key old = refl
@@ -43,7 +38,7 @@ pub value_changed : (changes : List Change) → AreDistinct changes → (told : 
 value_changed changes apart None key new is = tt
 value_changed changes apart (Some content) key new is = sym (get_changed changes apart content key ∙ ap (λ found. value_or found (get content key)) (sym is))
 
-value_same : (changes : List Change) → AreDistinct changes → (told : Option Content) (key : List ℕ) (found : Option (List ℕ)) → None ≡ changed_value changes key → IfSome told (λ content. found ≡ get content key) → IfSome (seen_content changes told) (λ content. found ≡ get content key)
+pub value_same : (changes : List Change) → AreDistinct changes → (told : Option Content) (key : List ℕ) (found : Option (List ℕ)) → None ≡ changed_value changes key → IfSome told (λ content. found ≡ get content key) → IfSome (seen_content changes told) (λ content. found ≡ get content key)
 value_same changes apart None key found is stored = tt
 value_same changes apart (Some content) key found is stored = stored ∙ sym (get_changed changes apart content key ∙ ap (λ o. value_or o (get content key)) (sym is))
 

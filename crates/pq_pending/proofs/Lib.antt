@@ -4,3 +4,6 @@ pub mod Lists
 pub mod Places
 pub mod Placing
 pub mod Steps
+pub mod Joining
+pub mod Firsts
+pub mod Held

@@ -1,3 +1,5 @@
 pub mod Pending
 pub mod Calls
 pub mod Placed
+pub mod Gets
+pub mod Tests

@@ -32,6 +32,11 @@ abbrev pub changed_value : List Change → List ℕ → Option (Option (List ℕ
 changed_value [] key = None
 changed_value (change ∷ rest) key = if eq_by_cmp key_cmp change.0 key then Some change.1 else changed_value rest key
 
+-- what a key has: what a change gives it, or what it had
+abbrev pub value_or : Option (Option (List ℕ)) → Option (List ℕ) → Option (List ℕ)
+value_or None old = old
+value_or (Some new) old = new
+
 -- no key has two of them
 abbrev pub AreDistinct : List Change → Type 0
 AreDistinct [] = Unit {0}

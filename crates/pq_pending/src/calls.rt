@@ -31,7 +31,7 @@ pub struct PendingCalls<'p, 'a, S, L: Ledger> {
     pub meter: &'a mut Meter<L>,
 }
 
-fn copy_of(alloc: Global, value: &Option<Bytes>) -> Result<Option<Bytes>, NoMem>
+pub(crate) fn copy_of(alloc: Global, value: &Option<Bytes>) -> Result<Option<Bytes>, NoMem>
     ensures { IfOk result (λ copy. copy ≡ value.now) }
 {
     match value {
@@ -55,6 +55,7 @@ impl<'p, 'a, S: Store<L>, L: Ledger> PendingCalls<'p, 'a, S, L> {
     fn stored(&mut self, alloc: Global, key: &[u8]) -> Result<Option<Bytes>, Broke>
         requires share { Affords self.old.allowance.now 1 1 }
         ensures uses { Uses S.content S.faults self.old self.new 1 1 }
+        ensures round { S.rounds self.new.store.now ≤ S.rounds self.old.store.now + 1 }
         ensures cause { IfErr result (Fails no_damage S.content S.faults self.old self.new) }
         ensures answered { IfErr result (IsAnswered (answers_of S.answers self.old)) }
         ensures answer { IfOk result (λ found. IfSome (S.content self.old.store.now)
@@ -71,6 +72,7 @@ impl<'p, 'a, S: Store<L>, L: Ledger> PendingCalls<'p, 'a, S, L> {
     pub fn get(&mut self, alloc: Global, key: &[u8]) -> Result<Option<Bytes>, Broke>
         requires share { Affords self.old.allowance.now 1 1 }
         ensures uses { Uses S.content S.faults self.old self.new 1 1 }
+        ensures round { S.rounds self.new.store.now ≤ S.rounds self.old.store.now + 1 }
         ensures cause { IfErr result (Fails no_damage S.content S.faults self.old self.new) }
         ensures answered { IfErr result (IsAnswered (answers_of S.answers self.old)) }
         ensures answer { IfOk result (λ found. IfSome (seen S.content self.old) (λ c. found ≡ value_at c key.now)) }
@@ -93,6 +95,7 @@ impl<'p, 'a, S: Store<L>, L: Ledger> PendingCalls<'p, 'a, S, L> {
     ) -> Result<u32, Broke>
         requires share { Affords self.old.allowance.now 1 cap }
         ensures uses { Uses S.content S.faults self.old self.new 1 cap }
+        ensures round { S.rounds self.new.store.now ≤ S.rounds self.old.store.now + 1 }
         ensures cause { IfErr result (Fails no_damage S.content S.faults self.old self.new) }
         ensures answered { IfErr result (IsAnswered (answers_of S.answers self.old)) }
         ensures answer { IfOk result (λ n. IfSome (S.content self.old.store.now)
@@ -115,6 +118,7 @@ impl<'p, 'a, S: Store<L>, L: Ledger> PendingCalls<'p, 'a, S, L> {
         requires limit { 1 ≤ limit }
         requires share { Affords self.old.allowance.now 1 limit }
         ensures uses { Uses S.content S.faults self.old self.new 1 limit }
+        ensures round { S.rounds self.new.store.now ≤ S.rounds self.old.store.now + 1 }
         ensures cause { IfErr result (Fails no_damage S.content S.faults self.old self.new) }
         ensures answered { IfErr result (IsAnswered (answers_of S.answers self.old)) }
         ensures answer { IfOk result (λ found. IfSome (S.content self.old.store.now)
@@ -134,6 +138,7 @@ impl<'p, 'a, S: Store<L>, L: Ledger> PendingCalls<'p, 'a, S, L> {
             (cap + removals_within low.now high.now self.old.pending.now.changes) }
         ensures uses { Uses S.content S.faults self.old self.new 1
             (cap + removals_within low.now high.now self.old.pending.now.changes) }
+        ensures round { S.rounds self.new.store.now ≤ S.rounds self.old.store.now + 1 }
         ensures cause { IfErr result (Fails no_damage S.content S.faults self.old self.new) }
         ensures answered { IfErr result (IsAnswered (answers_of S.answers self.old)) }
         ensures answer { IfOk result (λ n. IfSome (seen S.content self.old)
@@ -153,6 +158,7 @@ impl<'p, 'a, S: Store<L>, L: Ledger> PendingCalls<'p, 'a, S, L> {
     pub fn has_value(&mut self, alloc: Global, at: &[u8]) -> Result<bool, Broke>
         requires share { Affords self.old.allowance.now 1 1 }
         ensures uses { Uses S.content S.faults self.old self.new 1 1 }
+        ensures round { S.rounds self.new.store.now ≤ S.rounds self.old.store.now + 1 }
         ensures cause { IfErr result (Fails no_damage S.content S.faults self.old self.new) }
         ensures answered { IfErr result (IsAnswered (answers_of S.answers self.old)) }
         ensures answer { IfOk result (λ there. IfSome (seen S.content self.old) (λ c.
@@ -171,6 +177,7 @@ impl<'p, 'a, S: Store<L>, L: Ledger> PendingCalls<'p, 'a, S, L> {
     ) -> Result<Option<StoredRow>, Broke>
         requires share { Affords self.old.allowance.now 1 1 }
         ensures uses { Uses S.content S.faults self.old self.new 1 1 }
+        ensures round { S.rounds self.new.store.now ≤ S.rounds self.old.store.now + 1 }
         ensures cause { IfErr result (Fails (IsNoRowAt (row_shape types.now fillers.now) at) S.content S.faults
             self.old self.new) }
         ensures read { IfOk result (λ found. IfSome (seen S.content self.old) (λ c.
@@ -198,6 +205,7 @@ impl<'p, 'a, S: Store<L>, L: Ledger> PendingCalls<'p, 'a, S, L> {
     ) -> Result<Option<StoredRow>, Broke>
         requires share { Affords self.old.allowance.now 1 1 }
         ensures uses { Uses S.content S.faults self.old self.new 1 1 }
+        ensures round { S.rounds self.new.store.now ≤ S.rounds self.old.store.now + 1 }
         ensures cause { IfErr result (Fails (IsNoRowAt (shape_of table.now) (row_key number key.now)) S.content
             S.faults self.old self.new) }
         ensures read { IfOk result (λ found. IfSome (seen S.content self.old) (λ c.

@@ -5,8 +5,10 @@
 #![tactic(auto)]
 
 mod calls;
+mod gets;
 mod pending;
 mod placed;
+mod tests;
 
 pub use calls::PendingCalls;
 pub use pending::Pending;

@@ -1,5 +1,5 @@
 //! Changes that are not made yet.
-ghost use Rattle.std.specs.Prelude.{◌≡◌, ◌<◌, ◌+◌, ◌^◌, map, IfOk};
+ghost use Rattle.std.specs.Prelude.{◌≡◌, ◌<◌, ◌+◌, ◌^◌, [], map, nat_lt, IfOk, IsTrue};
 ghost use Rattle.std.specs.List.{count_by};
 ghost use Rattle.std.specs.Option.{option_map};
 ghost use Rattle.pq_content.specs.Standing.{change_of};
@@ -132,6 +132,13 @@ impl Pending {
         let _changes = &self.changes;
     }
 
+    /// Whether there are no changes.
+    pub(crate) fn is_empty(&self) -> bool
+        ensures { IsTrue result → self.now.changes ≡ [] }
+    {
+        self.changes.items().is_empty()
+    }
+
     /// What the changes give the key, where one of them is of it.
     pub(crate) fn value(&self, key: &[u8]) -> Option<&Option<Bytes>>
         ensures { option_map (λ new. new.now) result ≡ changed_value self.now.changes key.now }
@@ -151,6 +158,14 @@ impl Pending {
         ensures { result ≡ puts_within low.now high.now self.now.changes }
     {
         puts_of(self.changes.items(), low, high)
+    }
+
+    /// Whether changes are of keys with `low <= key < high`.
+    pub(crate) fn is_within(&self, low: &[u8], high: &[u8]) -> bool
+        ensures { result ≡ nat_lt 0 (removals_within low.now high.now self.now.changes
+            + puts_within low.now high.now self.now.changes) }
+    {
+        self.removals_within(low, high) > 0 || self.puts_within(low, high) > 0
     }
 
     /// How many of the pairs have a key of no change.

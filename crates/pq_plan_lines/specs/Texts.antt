@@ -87,3 +87,7 @@ cost_text cost size =
 abbrev pub line_text : List Table → Query → Option NewIndex → NodeLine → List ℕ
 line_text tables query wanted line =
     codes "node " ++ node_text tables query wanted line.node ++ cost_text line.cost line.size
+
+-- the line of a plan's rounds
+abbrev pub rounds_text : ℕ → List ℕ
+rounds_text rounds = codes "rounds " ++ decimal rounds ++ codes "\n"

@@ -3,11 +3,15 @@ ghost use Rattle.std.specs.Prelude.{◌≡◌, ◌++◌, ◌-◌, flat_map, map,
 ghost use Rattle.pq_schema.specs.Relations.{relation_at};
 ghost use Rattle.pq_schema.specs.Sequences.{ascending_part};
 ghost use Rattle.pq_schema.specs.Tables.{table_at};
-ghost use Rattle.pq_plan_lines.specs.Texts.{column_name, cost_text, index_parts, later_text, line_text, node_text, part_text, parts_text, read_text, relation_text, sequence_text, wanted_parts};
+ghost use Rattle.pq_plan.specs.Cost.{IsPlanTree};
+ghost use Rattle.pq_nodes.specs.Rounds.{plan_rounds};
+ghost use Rattle.pq_plan_lines.specs.Texts.{column_name, cost_text, index_parts, later_text, line_text, node_text, part_text, parts_text, read_text, relation_text, rounds_text, sequence_text, wanted_parts};
 
 use crate::node_line::{NodeLine, PlanNode};
+use crate::rounds::plan_rounds;
 use itoa::{Buffer, Integer};
 use pq_base::{Bound, Dir, List, NoMem};
+use pq_plan::BoundedPlan;
 use pq_schema::{Access, Column, Index, KeyPart, NewIndex, Query, Table};
 use std::alloc::{AllocError, Global};
 
@@ -327,4 +331,14 @@ pub fn put_lines(
         put_line(alloc, tables, query, wanted, line, out)?;
     }
     Ok(())
+}
+
+/// Puts how many rounds a plan asks the store for. After `NoMem` a part may be there.
+pub fn put_rounds(plan: &BoundedPlan, out: &mut String) -> Result<(), NoMem>
+    requires { IsPlanTree plan.now }
+    ensures { OnOk result (string_bytes out.new ≡ string_bytes out.old ++ rounds_text (plan_rounds plan.now)) }
+{
+    out.push_str("rounds ")?;
+    put_number(out, plan_rounds(plan.tree()))?;
+    Ok(out.push_str("\n")?)
 }

@@ -1,6 +1,6 @@
 -- The text of a plan that was computed is that of the plan that is asked for.
 use Rattle.std.proofs.Common.{◌≡◌, ℕ, List, [], ◌++◌, Option, Some, None, Result, Ok, Err, if◌then◌else◌, append_assoc, flat_map, refl, sym, ap, subst, ◌∙◌}
-use Rattle.std.specs.Prelude.{OnOk}
+use Rattle.std.specs.Prelude.{OnOk, sum_by}
 use Rattle.pq_base.specs.Answers.{Refuses}
 use Rattle.pq_base.specs.declared.refusal.Refusal.{Refusal}
 use Rattle.pq_base.specs.declared.refusal.Stopped.{Stopped}
@@ -18,7 +18,8 @@ use Rattle.pq_plan.specs.Nodes.{nodes, plan_nodes}
 use Rattle.pq_plan.proofs.Choices.{choice_has}
 use Rattle.pq_plan.proofs.PlanTree.{plan_tree}
 use Rattle.pq_plan_lines.specs.Lines.{plan_lines, sum_of}
-use Rattle.pq_plan_lines.specs.Texts.{line_text}
+use Rattle.pq_plan_lines.specs.Texts.{line_text, rounds_text}
+use Rattle.pq_nodes.specs.Rounds.{node_rounds, plan_rounds}
 use Rattle.pq_text.specs.declared.token.Token.{Token}
 use Rattle.pq_def_read.specs.declared.statement.Statement.{Statement}
 use Rattle.pq_def_read.specs.declared.statement.Statement.TheVariants as statement
@@ -37,15 +38,18 @@ use Rattle.pq_plan_report.specs.Told.{report_of, told_piece, told_plan}
 
 -- a query, the plan that was compiled of it, and the plan that was found of the same
 module _ (tables : List Table) (query : Query) (compiled : Compiled) (is : IsCompiled tables query compiled) (plan : PlannedDefinition) (same : plan.query ≡ query) (choice : plan.chosen.best.choice ≡ compiled.choice) (wanted : plan.chosen.wanted ≡ compiled.wanted) where
-  lines_are : plan_lines (nodes compiled.plan) ≡ lines_of tables plan
-  lines_are = ap plan_lines (is.plan.built ∙ (λ i. plan_nodes tables (sym same i) (sym choice i)))
+  nodes_are : nodes compiled.plan ≡ plan_nodes tables plan.query plan.chosen.best.choice
+  nodes_are = is.plan.built ∙ (λ i. plan_nodes tables (sym same i) (sym choice i))
 
-  text_is : (text : List ℕ) → text ≡ flat_map (line_text tables query compiled.wanted) (plan_lines (nodes compiled.plan)) → text ≡ plan_text tables plan
+  lines_are : plan_lines (nodes compiled.plan) ≡ lines_of tables plan
+  lines_are = ap plan_lines nodes_are
+
+  text_is : (text : List ℕ) → text ≡ flat_map (line_text tables query compiled.wanted) (plan_lines (nodes compiled.plan)) ++ rounds_text (plan_rounds compiled.plan) → text ≡ plan_text tables plan
   unfolding plan_text
-  text_is text told = told ∙ (λ i. flat_map (line_text tables (sym same i) (sym wanted i)) (lines_are i))
+  text_is text told = told ∙ (λ i. flat_map (line_text tables (sym same i) (sym wanted i)) (lines_are i) ++ rounds_text (sum_by node_rounds (nodes_are i)))
 
   planned_told : plan.chosen.best.bound ≡ cost compiled.plan → (found : Result PlannedDefinition Refusal) → found ≡ Ok plan → (text : List ℕ)
-      → text ≡ flat_map (line_text tables query compiled.wanted) (plan_lines (nodes compiled.plan)) → sum_of (plan_lines (nodes compiled.plan)) ≡ cost compiled.plan → TellsFound tables found text
+      → text ≡ flat_map (line_text tables query compiled.wanted) (plan_lines (nodes compiled.plan)) ++ rounds_text (plan_rounds compiled.plan) → sum_of (plan_lines (nodes compiled.plan)) ≡ cost compiled.plan → TellsFound tables found text
   planned_told bound found there text told sums =
       subst (λ (f : Result PlannedDefinition Refusal). TellsFound tables f text) (sym there)
       (record { text_is = text_is text told; sums = ap sum_of (sym lines_are) ∙ sums ∙ sym bound })
@@ -58,7 +62,7 @@ computed_tree schema computed valid are =
 
 -- so is what is told of a query that was found under a name
 pub found_told : (schema : Schema) (name : List ℕ) (found : Result PlannedDefinition Refusal) (computed : PlannedQuery) → IsPlanned schema name found computed → (text : List ℕ)
-    → text ≡ flat_map (line_text schema.tables computed.query computed.compiled.wanted) (plan_lines (nodes computed.compiled.plan)) → sum_of (plan_lines (nodes computed.compiled.plan)) ≡ cost computed.compiled.plan → TellsFound schema.tables found text
+    → text ≡ flat_map (line_text schema.tables computed.query computed.compiled.wanted) (plan_lines (nodes computed.compiled.plan)) ++ rounds_text (plan_rounds computed.compiled.plan) → sum_of (plan_lines (nodes computed.compiled.plan)) ≡ cost computed.compiled.plan → TellsFound schema.tables found text
 found_told schema name found computed is text told sums =
     planned_told schema.tables computed.query computed.compiled is.computed_is.compiled is.plan is.plan_is.query is.plan_is.choice is.plan_is.wanted is.plan_is.bound found is.is text told sums
 

@@ -1,11 +1,12 @@
 -- The plan of a query that is prepared, explained or run once, as lines (docs/FORMATS.md, "Plans").
-use Rattle.std.specs.Prelude.{◌≡◌, ℕ, List, [], flat_map, Result, Ok, Err}
+use Rattle.std.specs.Prelude.{◌≡◌, ℕ, List, [], ◌++◌, flat_map, sum_by, Result, Ok, Err}
 use Rattle.pq_base.specs.declared.refusal.Refusal.{Refusal}
 use Rattle.pq_schema.specs.Schema.{Schema}
 use Rattle.pq_schema.specs.declared.table.Table.{Table}
 use Rattle.pq_plan.specs.Nodes.{plan_nodes}
+use Rattle.pq_nodes.specs.Rounds.{node_rounds}
 use Rattle.pq_plan_lines.specs.Lines.{plan_lines, sum_of}
-use Rattle.pq_plan_lines.specs.Texts.{line_text}
+use Rattle.pq_plan_lines.specs.Texts.{line_text, rounds_text}
 use Rattle.pq_plan_lines.specs.declared.node_line.NodeLine.{NodeLine}
 use Rattle.pq_statement.specs.Actions.{Action, Creates, Adds, Writes, Batches, Misreads, Prepares, Explains, Runs, Counts, Reads, Shows, Selects}
 use Rattle.pq_planning.specs.Planned.{IsPlanned}
@@ -16,8 +17,14 @@ use Rattle.pq_planning.specs.declared.planning.PlannedQuery.{PlannedQuery}
 abbrev pub lines_of : List Table → PlannedDefinition → List NodeLine
 lines_of tables plan = plan_lines (plan_nodes tables plan.query plan.chosen.best.choice)
 
+-- how many rounds the nodes ask the store for
+abbrev pub rounds_of : List Table → PlannedDefinition → ℕ
+rounds_of tables plan = sum_by node_rounds (plan_nodes tables plan.query plan.chosen.best.choice)
+
 unfoldable pub plan_text : List Table → PlannedDefinition → List ℕ
-plan_text tables plan = flat_map (line_text tables plan.query plan.chosen.wanted) (lines_of tables plan)
+plan_text tables plan =
+    flat_map (line_text tables plan.query plan.chosen.wanted) (lines_of tables plan)
+    ++ rounds_text (rounds_of tables plan)
 
 -- of what is asked for: just a query that is prepared, explained or run once has a plan to be told
 abbrev pub asked_plan : Schema → Result Action Refusal → List ℕ

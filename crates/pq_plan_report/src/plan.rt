@@ -1,10 +1,11 @@
 //! The plan that a statement asks for, as the lines of its nodes.
-ghost use Rattle.std.specs.Prelude.{◌≡◌, ◌≤◌, flat_map, length, string_bytes, IfOk, IfErr};
+ghost use Rattle.std.specs.Prelude.{◌≡◌, ◌≤◌, ◌++◌, flat_map, length, string_bytes, IfOk, IfErr};
 ghost use Rattle.pq_base.specs.Answers.{Refuses};
 ghost use Rattle.pq_plan.specs.Cost.{IsPlanTree, cost};
 ghost use Rattle.pq_plan.specs.Nodes.{nodes};
 ghost use Rattle.pq_plan_lines.specs.Lines.{plan_lines, sum_of};
-ghost use Rattle.pq_plan_lines.specs.Texts.{line_text};
+ghost use Rattle.pq_nodes.specs.Rounds.{plan_rounds};
+ghost use Rattle.pq_plan_lines.specs.Texts.{line_text, rounds_text};
 ghost use Rattle.pq_text.specs.Tokens.{tokens_of};
 ghost use Rattle.pq_statement.specs.Actions.{action_of, asked_by, asked_text};
 ghost use Rattle.pq_planning.specs.Names.{IsNamedStatement};
@@ -15,7 +16,7 @@ ghost use Rattle.pq_plan_report.specs.Plans.{TellsAsked, TellsFound, TellsPlanne
 use pq_base::{List, NoMem, PText, Stopped};
 use pq_compile::Compiled;
 use pq_def_read::{Statement, read_statement};
-use pq_plan_lines::{plan_lines, put_lines};
+use pq_plan_lines::{plan_lines, put_lines, put_rounds};
 use pq_planning::{PlannedQuery, explained_name, plan_arranged, plan_select};
 use pq_schema::{Catalog, Query};
 use pq_text::{Piece, Token, tokens};
@@ -24,7 +25,7 @@ use std::alloc::Global;
 /// The greatest number of bytes of a statement.
 const STATEMENT_BYTES: usize = 65536;
 
-/// The lines of a plan's nodes. The costs in them sum to the plan's bound.
+/// The lines of a plan's nodes, and that of its rounds. The costs in them sum to the plan's bound.
 fn plan_text(
     alloc: Global,
     catalog: &Catalog,
@@ -34,7 +35,7 @@ fn plan_text(
     requires { IsPlanTree compiled.now.plan }
     ensures text { IfOk result (λ text. string_bytes text
         ≡ flat_map (line_text catalog.now.tables query.now compiled.now.wanted)
-        (plan_lines (nodes compiled.now.plan))) }
+        (plan_lines (nodes compiled.now.plan)) ++ rounds_text (plan_rounds compiled.now.plan)) }
     ensures sum { IfOk result (λ _. sum_of (plan_lines (nodes compiled.now.plan)) ≡ cost compiled.now.plan) }
 {
     let lines = plan_lines(alloc, &compiled.plan)?;
@@ -47,6 +48,7 @@ fn plan_text(
         lines.items(),
         &mut text,
     )?;
+    put_rounds(&compiled.plan, &mut text)?;
     Ok(text)
 }
 

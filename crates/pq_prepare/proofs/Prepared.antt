@@ -10,7 +10,7 @@ use Rattle.pq_builds.specs.declared.build.Built.TheVariants.{Rows as Filled, Too
 use Rattle.pq_builds.specs.declared.target.NewQuery.{NewQuery}
 use Rattle.pq_builds.specs.declared.target.Target.{Target}
 use Rattle.pq_builds.specs.Filling.{row_pairs_in}
-use Rattle.pq_builds.specs.Stages.{StopsBuilding, TakesBuild, IsWithinBuild as BuildsWithin, build_ops}
+use Rattle.pq_builds.specs.Stages.{RanBuild, StopsBuilding, TakesBuild, IsWithinBuild as BuildsWithin, build_ops}
 use Rattle.pq_builds.specs.Standing.{Origin, HoldsOrigin, Makes, Leaves, rows_in, before as before_build}
 use Rattle.pq_builds.specs.Targets.{target_of}
 use Rattle.pq_builds.proofs.Standing.{counted_before}
@@ -40,6 +40,7 @@ use Rattle.pq_store.specs.declared.damage.Broke.TheVariants as broke
 use Rattle.pq_reports.specs.Evidence.{TellsEvidence}
 use Rattle.pq_catalog.specs.Format.{format_of, last_definition}
 use Rattle.pq_planning.specs.Lines.{query_lines}
+use Rattle.pq_reports.specs.Making.{MakesAction}
 use Rattle.pq_reports.specs.Matches.{Matches}
 use Rattle.pq_catalog.specs.Model.{Model}
 use Rattle.pq_planning.specs.Planning.{PlannedDefinition, planned_definition}
@@ -50,7 +51,7 @@ use Rattle.pq_builds.specs.Bounds.{bound, build_bound}
 use Rattle.pq_statement.specs.Actions.{Prepares}
 use Rattle.pq_reports.specs.Step.{Step, report_of, refusal_report, crowding_refusal, prepared_over}
 use Rattle.pq_catalog.proofs.Building.{next_schema, next_model, origin_of, target_for, at_end, holds_origin, new_in, target_is, leaves_opens, makes_next, before_holds}
-use Rattle.pq_reports.proofs.Promises.{broken_kept, sound_kept, sound_shown, within_prepared}
+use Rattle.pq_reports.proofs.Promises.{broken_kept, of_told, sound_kept, sound_shown, within_prepared}
 use Rattle.pq_catalog.proofs.Standing.{settled_opens}
 
 -- ---- the pair of the definition
@@ -155,9 +156,9 @@ module _ (number : ℕ) (query : Query) (new : NewIndex) (best : Candidate) wher
 
     pub build_done : (old now : Option Content) (before after : Counts) (count : ℕ) (lines : List Line) → count ≤ 1000000 → lines ≡ query_lines schema.tables plan
         → ((origin : Origin) → HoldsOrigin origin target written old → Makes origin target written (Filled count) now)
-        → TakesBuild (Filled count) before after
+        → TakesBuild (Filled count) before after → IfSome old (λ content. RanBuild target written (Filled count) content now)
         → DoneStatement number (Ok (Prepares plan)) old now schema (with_query schema query (Some new)) before after (build_report number lines count)
-    build_done old now before after count lines few lined makes takes =
+    build_done old now before after count lines few lined makes takes ran =
         let made_at : (m : Model) → Stands old schema m → Makes (origin_of m new) (target_for m new) (last_query (next_schema m.schema query new)) (Filled count) now =
         λ m s. at_model (λ o t q. Makes o t q (Filled count) now) old m s makes in
         record {
@@ -187,6 +188,9 @@ module _ (number : ℕ) (query : Query) (new : NewIndex) (best : Candidate) wher
           unread = tt;
           can = tt;
           reads = λ none. absurd none;
+          tells = λ _. of_told old (λ content. RanBuild target written (Filled count) content now) (λ content. MakesAction schema (Prepares plan) content now (build_report number lines count)) (λ content built. (count, built)) ran;
+          kind = λ _. (lined, refl);
+          bare = λ refusal. absurd refusal;
         }
 
     pub too_many_done : (old now : Option Content) (before after : Counts) (why : Refusal) → why ≡ refusal.TooManyRows (table_at schema.tables new.table).name
@@ -216,6 +220,9 @@ module _ (number : ℕ) (query : Query) (new : NewIndex) (best : Candidate) wher
       unread = tt;
       can = is;
       reads = λ none. absurd none;
+      tells = λ not. absurd (not tt);
+      kind = λ not. absurd (not tt);
+      bare = λ _. refl;
     }
 
     -- the bound of the step over a model's rows
@@ -261,25 +268,45 @@ module _ (number : ℕ) (query : Query) (new : NewIndex) (best : Candidate) wher
         → IfSome now (λ content. TellsEvidence schema content broke)
         → BuildsWithin build_ops before after
         → ((origin : Origin) → HoldsOrigin origin target written old → TakesAtMost (build_bound (rows_in origin target)) before after)
+        → IfSome old (λ content. TakesAtMost (build_bound (length (row_pairs_in target.table content))) before after)
         → BrokenStatement number (Ok (Prepares plan)) old now schema before after broke
-    build_broken old now before after broke leaves sound ended shown lasting within bounded = record {
+    build_broken old now before after broke leaves sound ended shown lasting within bounded rows = record {
       stopped = λ m s. stopped_at old now m s leaves ended;
       sound = λ m s. at_model (λ o t q. IsUndamaged broke) old m s sound;
       within = within;
       within_own = λ m s. step_within m before after (at_model (λ o t q. TakesAtMost (build_bound (rows_in o t)) before after) old m s bounded);
       kept = stops_damaged old now broke ended;
+      left = ended;
+      within_rows = rows;
       memory = λ m s. tt;
       reads = λ none. absurd none;
       shown = shown;
       lasting = lasting;
     }
 
+    -- all was made, within the bound of its table's rows
+    built_left : (now : Option Content) (count : ℕ) (content : Content) → RanBuild target written (Filled count) content now → StopsBuilding target written content now
+    built_left now count content ran =
+        let long = ran.0 in
+        let few = ran.1 in
+        inr (record { absent = ran.2.absent; few = omega (arith, long, few); stops = inr ran.2.ready })
+
+    built_within : (now : Option Content) (before after : Counts) (count : ℕ) (content : Content) → TakesBuild (Filled count) before after → RanBuild target written (Filled count) content now
+        → TakesAtMost (build_bound (length (row_pairs_in target.table content))) before after
+    built_within now before after count content takes ran =
+        let long = ran.0 in
+        let few = ran.1 in
+        let rows = length (row_pairs_in target.table content) in
+        let low : rows ≤ 1000000 = omega (arith, long, few) in
+        subst (λ (b : Bound). TakesAtMost b before after) (filled_bound rows low)
+        (record { ops = omega (arith, takes.ops_are, ap build_ops long); entries = omega (arith, takes.entries_are, long) })
+
     -- want of memory behind a build that was made
     pub build_lost : (old now : Option Content) (before after : Counts) (count : ℕ) → count ≤ 1000000
         → ((origin : Origin) → HoldsOrigin origin target written old → Makes origin target written (Filled count) now)
-        → TakesBuild (Filled count) before after
+        → TakesBuild (Filled count) before after → IfSome old (λ content. RanBuild target written (Filled count) content now)
         → BrokenStatement number (Ok (Prepares plan)) old now schema before after broke.NoMem
-    build_lost old now before after count few makes takes = record {
+    build_lost old now before after count few makes takes ran = record {
       stopped = λ m s.
           let made = at_model (λ o t q. Makes o t q (Filled count) now) old m s makes in
           inr (subst (λ (x : Step). Opens now x.model) (sym (few_step m made.1)) (settled_opens (makes_next m query new s.settled.valid s.settled.keeps s.settled.few (defined_in old m s) count made)));
@@ -290,6 +317,8 @@ module _ (number : ℕ) (query : Query) (new : NewIndex) (best : Candidate) wher
           step_within m before after (subst (λ (b : Bound). TakesAtMost b before after) (filled_bound (rows_at m) made.1)
           (record { ops = omega (arith, takes.ops_are, ap build_ops made.0); entries = omega (arith, takes.entries_are, made.0) }));
       kept = sound_kept schema (Ok (Prepares plan)) old now broke.NoMem tt;
+      left = of_told old (λ content. RanBuild target written (Filled count) content now) (λ content. StopsBuilding target written content now) (built_left now count) ran;
+      within_rows = of_told old (λ content. RanBuild target written (Filled count) content now) (λ content. TakesAtMost (build_bound (length (row_pairs_in target.table content))) before after) (λ content. built_within now before after count content takes) ran;
       memory = λ m s. tt;
       reads = λ none. absurd none;
       shown = sound_shown old schema broke.NoMem tt;
@@ -298,14 +327,17 @@ module _ (number : ℕ) (query : Query) (new : NewIndex) (best : Candidate) wher
 
     -- want of memory behind a count of too many rows
     pub too_many_lost : (old now : Option Content) (before after : Counts) → ((origin : Origin) → HoldsOrigin origin target written old → Makes origin target written TooMany now)
-        → now ≡ old → TakesBuild TooMany before after → BrokenStatement number (Ok (Prepares plan)) old now schema before after broke.NoMem
-    too_many_lost old now before after makes same takes =
+        → now ≡ old → TakesBuild TooMany before after → IfSome old (λ content. RanBuild target written TooMany content now)
+        → BrokenStatement number (Ok (Prepares plan)) old now schema before after broke.NoMem
+    too_many_lost old now before after makes same takes ran =
         broken_kept number (Ok (Prepares plan)) old now schema before after broke.NoMem same (λ m s. tt)
         (record { count = 1000000; few = lit≤ tt; ops = omega (arith, takes.ops_are, one_of_many); entries = omega (arith, takes.entries_are) })
         (λ m s.
         let made = at_model (λ o t q. Makes o t q TooMany now) old m s makes in
         step_within m before after (subst (λ (b : Bound). TakesAtMost b before after) (sym (counted_bound (rows_at m) made.0))
         (record { ops = omega (arith, takes.ops_are); entries = omega (arith, takes.entries_are) })))
+        (of_told old (λ content. RanBuild target written TooMany content now) (λ content. TakesAtMost (build_bound (length (row_pairs_in target.table content))) before after)
+        (λ content many. subst (λ (b : Bound). TakesAtMost b before after) (sym (counted_bound (length (row_pairs_in target.table content)) many.0)) (record { ops = omega (arith, takes.ops_are); entries = omega (arith, takes.entries_are) })) ran)
         (sound_shown old schema broke.NoMem tt)
 
 -- a clause on an index and a definition, and on what these are

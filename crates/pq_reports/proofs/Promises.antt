@@ -1,5 +1,5 @@
 -- Steps that change nothing, and the clauses on the step of a piece.
-use Rattle.std.proofs.Common.{◌≡◌, ℕ, ◌⊎◌, Bool, true, false, List, Option, Some, None, Result, Ok, Err, if◌then◌else◌, refl, sym, ap, ◌∙◌, subst, arith, inl, lit≤}
+use Rattle.std.proofs.Common.{◌≡◌, ℕ, ◌⊎◌, Bool, true, false, List, [], Option, Some, None, Result, Ok, Err, if◌then◌else◌, refl, sym, ap, ◌∙◌, subst, arith, inl, lit≤}
 use Rattle.std.specs.Prelude.{◌+◌, ◌*◌, ◌≤◌, nat_le, IfOk, IfErr, IfSome, OnErr}
 use Rattle.std.proofs.lemmas.Bool.{leb-true}
 use Rattle.std.proofs.lemmas.Option.{none-some, same_Some}
@@ -40,8 +40,69 @@ use Rattle.pq_store.specs.Breaks.{IsUndamaged}
 use Rattle.pq_reports.specs.Matches.{Matches}
 use Rattle.pq_intent.specs.Spending.{TakesAtMost}
 use Rattle.pq_reports.specs.Promise.{DoneStatement, BrokenStatement, Promises, IsBound, IsRefusal, IsWithinFixed, KeepsDamaged, LacksMemory, OnlyReads, StopsAction, StopsAsked, StopsIndex}
+use Rattle.pq_reports.specs.Making.{IsWithinAsked, IsWithinRows, LeavesAction, LeavesAsked, LeavesPrepared, MakesAction, MakesAsked}
 use Rattle.pq_reports.specs.Refusing.{CanEnd, IsUnread}
+use Rattle.pq_reports.specs.Telling.{TellsAction, TellsAsked}
 use Rattle.pq_catalog.proofs.Standing.{settled_opens}
+
+-- ---- what is said of a content that is told
+
+-- what holds of each content holds of the one that is told
+pub of_each : (old : Option Content) (holds : Content → Type 0) → ((content : Content) → holds content) → IfSome old holds
+of_each None holds each = tt
+of_each (Some content) holds each = each content
+
+pub of_told : (old : Option Content) (holds also : Content → Type 0) → ((content : Content) → holds content → also content) → IfSome old holds → IfSome old also
+of_told None holds also from here = tt
+of_told (Some content) holds also from here = from content here
+
+-- a content that is as it was is one that what was asked for may leave
+prepared_left : (schema next : Schema) (query : Query) (wanted : Option NewIndex) (content : Content) (now : Option Content) → now ≡ Some content → LeavesPrepared schema next query wanted content now
+prepared_left schema next query None content now same = inl same
+prepared_left schema next query (Some new) content now same = inl same
+
+action_left : (schema : Schema) (action : Action) (content : Content) (now : Option Content) → now ≡ Some content → LeavesAction schema action content now
+action_left schema (Creates table) content now same = inl same
+action_left schema (Adds def) content now same = inl same
+action_left schema (Writes write) content now same = inl same
+action_left schema (Batches writes) content now same = inl same
+action_left schema (Misreads place cause) content now same = same
+action_left schema (Prepares plan) content now same = prepared_left schema (action_schema schema (Prepares plan)) plan.query plan.chosen.wanted content now same
+action_left schema (Explains plan) content now same = same
+action_left schema (Runs running) content now same = same
+action_left schema (action.Counts def) content now same = inl same
+action_left schema (Reads reading) content now same = same
+action_left schema Shows content now same = same
+action_left schema (Selects plan) content now same = same
+
+pub same_left : (schema : Schema) (asked : Result Action Refusal) (old now : Option Content) → now ≡ old → IfSome old (λ content. LeavesAsked schema asked content now)
+same_left schema asked None now same = tt
+same_left schema (Ok action) (Some content) now same = action_left schema action content now same
+same_left schema (Err why) (Some content) now same = same
+
+-- where no call is made, nothing is used
+rows_within : (wanted : Option NewIndex) (content : Content) (counts : Counts) → IsWithinRows wanted content counts counts
+rows_within None content counts = tt
+rows_within (Some new) content counts = record { ops = omega arith; entries = omega arith }
+
+none_within : (asked : Result Action Refusal) (content : Content) (counts : Counts) → IsWithinAsked asked content counts counts
+none_within (Err why) content counts = tt
+none_within (Ok (Creates table)) content counts = tt
+none_within (Ok (Adds def)) content counts = tt
+none_within (Ok (Writes write)) content counts = tt
+none_within (Ok (Batches writes)) content counts = tt
+none_within (Ok (Misreads place cause)) content counts = tt
+none_within (Ok (Prepares plan)) content counts = rows_within plan.chosen.wanted content counts
+none_within (Ok (Explains plan)) content counts = tt
+none_within (Ok (Runs running)) content counts = tt
+none_within (Ok (action.Counts def)) content counts = tt
+none_within (Ok (Reads reading)) content counts = tt
+none_within (Ok Shows) content counts = tt
+none_within (Ok (Selects plan)) content counts = tt
+
+-- a report that tells lines isn't refused
+ended_bare : (report : Report) → report.end ≡ End.Done → IsRefusal report.end → report.lines ≡ []
+ended_bare report ended refused = absurd (subst IsRefusal ended refused)
 
 -- a statement that is refused before any call of the store changes nothing and uses nothing
 pub unread_done : (number : ℕ) (why : Refusal) (old : Option Content) (schema : Schema) (counts : Counts)
@@ -60,6 +121,9 @@ unread_done number why old schema counts = record {
   unread = refl;
   can = refl;
   reads = λ _. refl;
+  tells = λ not. absurd (not tt);
+  kind = λ not. absurd (not tt);
+  bare = λ _. refl;
 }
 
 -- where no damage is told, nothing has to show it
@@ -278,6 +342,8 @@ broken_same number asked old schema counts broke sound = record {
   within = within_none (asked_bound schema asked) counts;
   within_own = λ m s. record { ops = omega arith; entries = omega arith };
   kept = same_kept schema asked old old broke refl;
+  left = same_left schema asked old old refl;
+  within_rows = of_each old (λ content. IsWithinAsked asked content counts counts) (λ content. none_within asked content counts);
   memory = λ m s. unchanged_lacks asked old old broke refl;
   reads = λ _. refl;
   shown = sound_for asked old schema broke sound;
@@ -288,13 +354,16 @@ broken_same number asked old schema counts broke sound = record {
 pub broken_kept : (number : ℕ) (asked : Result Action Refusal) (old now : Option Content) (schema : Schema) (before after : Counts) (broke : Broke)
     → now ≡ old → ((m : Model) → Stands old schema m → IsUndamaged broke) → IsWithinFixed (asked_bound schema asked) before after
     → ((m : Model) → Stands old schema m → TakesAtMost (acted_as m number asked).report.bound before after)
-    → IfSome old (λ content. TellsEvidenceFor asked schema content broke) → BrokenStatement number asked old now schema before after broke
-broken_kept number asked old now schema before after broke same sound within own shown = record {
+    → IfSome old (λ content. IsWithinAsked asked content before after) → IfSome old (λ content. TellsEvidenceFor asked schema content broke)
+    → BrokenStatement number asked old now schema before after broke
+broken_kept number asked old now schema before after broke same sound within own rows shown = record {
   stopped = λ m s. inl (settled_opens (subst (λ o. HoldsModel o m) (sym same) s.settled));
   sound = sound;
   within = within;
   within_own = own;
   kept = same_kept schema asked old now broke same;
+  left = same_left schema asked old now same;
+  within_rows = rows;
   memory = λ m s. unchanged_lacks asked old now broke same;
   reads = λ _. same;
   shown = shown;
@@ -309,7 +378,8 @@ unread_err number (Err why) report unread = unread
 -- what is reported of the definitions alone makes no call of the store
 module _ (number : ℕ) (action : Action) (report : Schema → Report) (free : (schema : Schema) → (report schema).used ≡ record { ops = 0; entries = 0 })
     (numbered : (schema : Schema) → (report schema).number ≡ number) (ended : (schema : Schema) → (report schema).end ≡ End.Done) (is : (m : Model) → action_step m number action ≡ report_step m (report m.schema))
-    (unread : (schema : Schema) → IsUnread number (Ok action) (report schema)) where
+    (unread : (schema : Schema) → IsUnread number (Ok action) (report schema)) (made : (schema : Schema) (content : Content) (now : Option Content) → MakesAction schema action content now (report schema))
+    (kind : (schema : Schema) → TellsAction schema action (report schema)) where
   pub unpaid_done : (old : Option Content) (schema : Schema) (counts : Counts) → action_bound schema action ≡ Some (report schema).bound → schema ≡ action_schema schema action
       → DoneStatement number (Ok action) old old schema schema counts counts (report schema)
   unpaid_done old schema counts most same =
@@ -330,17 +400,20 @@ module _ (number : ℕ) (action : Action) (report : Schema → Report) (free : (
         unread = unread schema;
         can = subst (CanEnd schema (Ok action)) (sym (ended schema)) tt;
         reads = λ _. refl;
+        tells = λ _. of_each old (λ content. MakesAction schema action content old (report schema)) (λ content. made schema content old);
+        kind = λ _. kind schema;
+        bare = ended_bare (report schema) (ended schema);
       }
 
 -- SHOW tells the definitions
 pub shown_done : (number : ℕ) (old : Option Content) (schema : Schema) (counts : Counts)
     → DoneStatement number (Ok Shows) old old schema schema counts counts (report_of number (show_lines schema) End.Done (bound 0 0))
-shown_done number old schema counts = unpaid_done number Shows (λ s. report_of number (show_lines s) End.Done (bound 0 0)) (λ s. refl) (λ s. refl) (λ s. refl) (λ m. refl) (λ s. tt) old schema counts refl refl
+shown_done number old schema counts = unpaid_done number Shows (λ s. report_of number (show_lines s) End.Done (bound 0 0)) (λ s. refl) (λ s. refl) (λ s. refl) (λ m. refl) (λ s. tt) (λ s c now. tt) (λ s. (refl, refl)) old schema counts refl refl
 
 -- EXPLAIN tells a query's plan
 pub explained_done : (number : ℕ) (plan : PlannedDefinition) (old : Option Content) (schema : Schema) (counts : Counts)
     → DoneStatement number (Ok (Explains plan)) old old schema schema counts counts (explanation schema.tables number plan)
-explained_done number plan old schema counts = unpaid_done number (Explains plan) (λ s. explanation s.tables number plan) (λ s. refl) (λ s. refl) (λ s. refl) (λ m. refl) (λ s. tt) old schema counts refl refl
+explained_done number plan old schema counts = unpaid_done number (Explains plan) (λ s. explanation s.tables number plan) (λ s. refl) (λ s. refl) (λ s. refl) (λ m. refl) (λ s. tt) (λ s c now. tt) (λ s. (refl, refl)) old schema counts refl refl
 
 -- a batch of which a write is refused by reading makes no call
 pub misread_done : (number place : ℕ) (cause : Refusal) (old : Option Content) (schema : Schema) (counts : Counts)
@@ -359,6 +432,9 @@ misread_done number place cause old schema counts = record {
   unread = refl;
   can = (refl, refl);
   reads = λ _. refl;
+  tells = λ not. absurd (not tt);
+  kind = λ not. absurd (not tt);
+  bare = λ _. refl;
 }
 
 -- ---- the clauses on the step of a piece
@@ -446,3 +522,25 @@ module _ (number : ℕ) (piece : Piece) (old now : Option Content) (schema : Sch
   pub promised_reads : (result : Result (Schema × Report) Broke) → Promised result → OnlyReads (action_of schema piece) → now ≡ old
   promised_reads (Ok made) p = p.reads
   promised_reads (Err broke) p = p.reads
+
+  -- what was made of any content that is told, and what is left of it
+  pub promised_tells : (result : Result (Schema × Report) Broke) → Promised result
+      → IfOk result (λ p. (IsRefusal p.1.end → ⊥) → IfSome old (λ content. MakesAsked schema (action_of schema piece) content now p.1))
+  promised_tells (Ok made) p = p.tells
+  promised_tells (Err broke) p = tt
+
+  pub promised_kind : (result : Result (Schema × Report) Broke) → Promised result → IfOk result (λ p. (IsRefusal p.1.end → ⊥) → TellsAsked schema (action_of schema piece) p.1)
+  promised_kind (Ok made) p = p.kind
+  promised_kind (Err broke) p = tt
+
+  pub promised_bare : (result : Result (Schema × Report) Broke) → Promised result → IfOk result (λ p. IsRefusal p.1.end → p.1.lines ≡ [])
+  promised_bare (Ok made) p = p.bare
+  promised_bare (Err broke) p = tt
+
+  pub promised_left : (result : Result (Schema × Report) Broke) → Promised result → OnErr result (IfSome old (λ content. LeavesAsked schema (action_of schema piece) content now))
+  promised_left (Ok made) p = tt
+  promised_left (Err broke) p = p.left
+
+  pub promised_rows : (result : Result (Schema × Report) Broke) → Promised result → OnErr result (IfSome old (λ content. IsWithinAsked (action_of schema piece) content before after))
+  promised_rows (Ok made) p = tt
+  promised_rows (Err broke) p = p.within_rows

@@ -1,6 +1,9 @@
 pub mod Evidence
+pub mod Making
 pub mod Matches
 pub mod Promise
+pub mod Putting
 pub mod Refusing
 pub mod Reports
 pub mod Step
+pub mod Telling

@@ -1,14 +1,10 @@
 -- What a call that makes a step promises.
-use Rattle.std.specs.Prelude.{◌≡◌, ℕ, ◌≤◌, ◌+◌, ◌⊎◌, Option, Some, None, Result, Ok, Err, IfSome}
+use Rattle.std.specs.Prelude.{◌≡◌, ℕ, ◌≤◌, ◌+◌, ◌⊎◌, [], Option, Some, None, Result, Ok, Err, IfSome}
 use Rattle.pq_base.specs.declared.number.Bound.{Bound}
 use Rattle.pq_schema.specs.Schema.{Schema}
-use Rattle.pq_schema.specs.Tables.{table_at}
-use Rattle.pq_schema.specs.declared.query.Query.{Query}
-use Rattle.pq_schema.specs.declared.table.NewIndex.{NewIndex}
 use Rattle.pq_base.specs.declared.refusal.Refusal.{Refusal}
 use Rattle.pq_builds.specs.Bounds.{build_bound}
-use Rattle.pq_builds.specs.Stages.{IsWithinBuild as BuildsWithin, StopsBuilding, build_ops}
-use Rattle.pq_builds.specs.Targets.{target_of}
+use Rattle.pq_builds.specs.Stages.{IsWithinBuild as BuildsWithin, build_ops}
 use Rattle.pq_intent.specs.Settling.{HasIntent}
 use Rattle.pq_intent.specs.Spending.{TakesAtMost}
 use Rattle.pq_print.specs.declared.report.End.{End}
@@ -23,7 +19,10 @@ use Rattle.pq_statement.specs.Actions.{Action, Creates, Adds, Writes, Batches, M
 use Rattle.pq_reports.specs.Evidence.{TellsEvidenceFor}
 use Rattle.pq_catalog.specs.Model.{Model}
 use Rattle.pq_reports.specs.Refusing.{CanEnd, IsUnread}
-use Rattle.pq_catalog.specs.Stands.{Stands, Opens, new_query_of}
+use Rattle.pq_catalog.specs.Stands.{Stands, Opens}
+use Rattle.pq_reports.specs.Making.{IsWithinAsked, LeavesAsked, MakesAsked}
+pub use Rattle.pq_reports.specs.Making.{StopsIndex}
+use Rattle.pq_reports.specs.Telling.{TellsAsked}
 use Rattle.pq_reports.specs.Step.{acted_as}
 use Rattle.pq_reports.specs.Matches.{Matches}
 use Rattle.pq_store.specs.Breaks.{IfDamaged, IsUndamaged}
@@ -60,13 +59,7 @@ OnlyReads (Ok Shows) = Unit {0}
 OnlyReads (Ok (Selects plan)) = Unit {0}
 OnlyReads (Err why) = Unit {0}
 
--- an index that was to be made: nothing was done, or from its definition's mark on some or all
-abbrev pub StopsIndex : Schema → Query → Option NewIndex → Content → Option Content → Type 0
-StopsIndex schema query None content now = now ≡ Some content
-StopsIndex schema query (Some new) content now = StopsBuilding
-    (target_of new.table new.number (table_at schema.tables new.table) new.index) (new_query_of schema query) content
-    now
-
+-- where damage is found, the content is as it was, but for an index that was being made
 abbrev pub StopsAction : Schema → Action → Content → Option Content → Type 0
 StopsAction schema (Creates table) content now = now ≡ Some content
 StopsAction schema (Adds def) content now = now ≡ Some content
@@ -81,7 +74,6 @@ StopsAction schema (Reads reading) content now = now ≡ Some content
 StopsAction schema Shows content now = now ≡ Some content
 StopsAction schema (Selects plan) content now = now ≡ Some content
 
--- where damage is found, the content is as it was, but for an index that was being made
 abbrev pub StopsAsked : Schema → Result Action Refusal → Content → Option Content → Type 0
 StopsAsked schema (Ok action) content now = StopsAction schema action content now
 StopsAsked schema (Err why) content now = now ≡ Some content
@@ -113,6 +105,9 @@ pub record DoneStatement (number : ℕ) (asked : Result Action Refusal) (old now
   pub unread : IsUnread number asked report
   pub can : CanEnd schema asked report.end
   pub reads : OnlyReads asked → now ≡ old
+  pub tells : (IsRefusal report.end → ⊥) → IfSome old (λ content. MakesAsked schema asked content now report)
+  pub kind : (IsRefusal report.end → ⊥) → TellsAsked schema asked report
+  pub bare : IsRefusal report.end → report.lines ≡ []
 
 -- it broke off: the content opens to what it stood for, or to what the step makes
 pub record BrokenStatement (number : ℕ) (asked : Result Action Refusal) (old now : Option Content) (schema : Schema)
@@ -122,6 +117,8 @@ pub record BrokenStatement (number : ℕ) (asked : Result Action Refusal) (old n
   pub within : IsWithinFixed (asked_bound schema asked) before after
   pub within_own : (m : Model) → Stands old schema m → TakesAtMost (acted_as m number asked).report.bound before after
   pub kept : KeepsDamaged schema asked old now broke
+  pub left : IfSome old (λ content. LeavesAsked schema asked content now)
+  pub within_rows : IfSome old (λ content. IsWithinAsked asked content before after)
   pub memory : (m : Model) → Stands old schema m → LacksMemory asked old now broke
   pub reads : OnlyReads asked → now ≡ old
   pub shown : IfSome old (λ content. TellsEvidenceFor asked schema content broke)

@@ -1,5 +1,5 @@
 //! The rows of candidates, behind their inputs.
-ghost use Rattle.std.specs.Prelude.{◌≡◌, ◌<◌, ◌++◌, ◌∷◌, [], map, length, IfOk, IfErr, IfSome};
+ghost use Rattle.std.specs.Prelude.{◌≡◌, ◌<◌, ◌++◌, ◌∷◌, ◌≤◌, ◌+◌, [], map, length, IfOk, IfErr, IfSome};
 ghost use Rattle.std.specs.List.{AllByRecursion};
 ghost use Rattle.pq_base.specs.Values.{AllFit};
 ghost use Rattle.pq_schema.specs.Rows.{types_of};
@@ -64,6 +64,7 @@ fn rows_of<S: Store<L>, L: Ledger>(
         (fetches scan.now.access (length held)) }
     ensures cause { IfErr result (Fails (where_told
         (ShowsRead scan.now.catalog.now.tables)) S.content S.faults calls.old calls.new) }
+    ensures rounds { S.rounds calls.new.store.now ≤ S.rounds calls.old.store.now + fetches scan.now.access 1 }
     ensures answered { IfErr result (IsAnswered S.answers) }
     ensures long { IfOk result (λ rows. length rows ≡ length held) }
     ensures fit { IfOk result (AllByRecursion (AllFit (types_of (scanned_table scan.now)))) }
@@ -132,6 +133,7 @@ pub(crate) fn combos_of<S: Store<L>, L: Ledger>(
         (length candidates)) (fetches scan.now.access (length candidates)) }
     ensures cause { IfErr result (Fails (where_told
         (ShowsRead scan.now.catalog.now.tables)) S.content S.faults calls.old calls.new) }
+    ensures rounds { S.rounds calls.new.store.now ≤ S.rounds calls.old.store.now + fetches scan.now.access 1 }
     ensures answered { IfErr result (IsAnswered S.answers) }
     ensures size { IfOk result (λ found. length found ≡ length candidates) }
     ensures fit { IfOk result (AllByRecursion

@@ -1,5 +1,5 @@
 //! The candidates of all inputs, and the first of them by position.
-ghost use Rattle.std.specs.Prelude.{◌≡◌, ◌≤◌, ◌*◌, ◌-◌, length, take, option_copied, IfOk, IfErr, IfSome};
+ghost use Rattle.std.specs.Prelude.{◌≡◌, ◌≤◌, ◌*◌, ◌-◌, ◌+◌, length, take, option_copied, IfOk, IfErr, IfSome};
 ghost use Rattle.std.specs.List.{AllByRecursion};
 ghost use Rattle.pq_base.specs.Sorting.{sort_by};
 ghost use Rattle.pq_store.specs.Content.{key_cmp};
@@ -43,6 +43,7 @@ pub(crate) fn gather<S: Store<L>, L: Ledger>(
     ensures uses { Uses S.content S.faults calls.old calls.new (length inputs.now) (length inputs.now * limit) }
     ensures cause { IfErr result (Fails (where_told
         (ShowsRead scan.now.catalog.now.tables)) S.content S.faults calls.old calls.new) }
+    ensures rounds { S.rounds calls.new.store.now ≤ S.rounds calls.old.store.now + 1 }
     ensures answered { IfErr result (IsAnswered S.answers) }
     ensures kept { IfOk result (AllByRecursion (IsCandidate scan.now (S.content calls.old.store.now)
         (length inputs.now))) }

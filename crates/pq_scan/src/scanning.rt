@@ -1,10 +1,11 @@
 //! A stop scan over its inputs.
-ghost use Rattle.std.specs.Prelude.{◌≤◌, option_copied, length, IfOk, IfErr, IfSome};
+ghost use Rattle.std.specs.Prelude.{◌≤◌, ◌+◌, option_copied, length, IfOk, IfErr, IfSome};
 ghost use Rattle.pq_store.specs.Breaks.{IsAnswered};
 ghost use Rattle.pq_calls.specs.Calls.{Uses, Fails};
 ghost use Rattle.pq_calls.specs.World.{where_told};
 ghost use Rattle.pq_nodes.specs.Operators.{AffordsNode, AreFound, AreInputs, AnswersNode, IsAsked, IsCursor, IsReadyNode, ShowsRead};
 ghost use Rattle.pq_nodes.specs.Paid.{node_cost};
+ghost use Rattle.pq_nodes.specs.Rounds.{node_rounds};
 ghost use Rattle.pq_plan.specs.Nodes.{stop_scan};
 ghost use Rattle.pq_scan.specs.Prepared.{IsScannable};
 ghost use Rattle.pq_scan.specs.Scanned.{AreScanned, AreFirstScanned};
@@ -40,6 +41,8 @@ fn run<S: Store<L>, L: Ledger>(
         (stop_scan scan.now.rel k scan.now.access)).entries }
     ensures cause { IfErr result (Fails (where_told
         (ShowsRead scan.now.catalog.now.tables)) S.content S.faults calls.old calls.new) }
+    ensures rounds { S.rounds calls.new.store.now ≤ S.rounds calls.old.store.now
+        + node_rounds (stop_scan scan.now.rel k scan.now.access) }
     ensures answered { IfErr result (IsAnswered S.answers) }
     ensures found { IfOk result (AreFound scan.now.catalog.now.tables scan.now.query.now scan.now.rel
         (length inputs.now) (stop_scan scan.now.rel k scan.now.access)) }
@@ -78,6 +81,8 @@ pub fn scan_inputs<S: Store<L>, L: Ledger>(
         (stop_scan rel k access)).ops (node_cost (length inputs.now) (stop_scan rel k access)).entries }
     ensures cause { IfErr result (Fails (where_told
         (ShowsRead catalog.now.tables)) S.content S.faults calls.old calls.new) }
+    ensures rounds { S.rounds calls.new.store.now ≤ S.rounds calls.old.store.now
+        + node_rounds (stop_scan rel k access) }
     ensures answered { IfErr result (IsAnswered S.answers) }
     ensures found { IfOk result (AreFound catalog.now.tables query.now rel (length inputs.now)
         (stop_scan rel k access)) }

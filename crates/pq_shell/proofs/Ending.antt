@@ -19,7 +19,7 @@ use Rattle.pq_check.specs.Checks.{without_rows}
 use Rattle.pq_catalog.specs.Model.{Model}
 use Rattle.pq_catalog.proofs.Standing.{settled_opens}
 use Rattle.pq_shell.specs.Answered.{IsAnsweredStop}
-use Rattle.pq_shell.specs.Fold.{Moment, ServedItems, StoppedItem}
+use Rattle.pq_shell.specs.Fold.{Moment, PassesItem, ServedItems, StoppedItem}
 use Rattle.pq_shell.specs.Forms.{HasItems, HasOpening, OpensAt, StandsIn, close, shown_report}
 use Rattle.pq_shell.specs.Items.{Item, Cut, Rest, cut_items, rest_items, items_of}
 use Rattle.pq_shell.specs.Making.{ReadsSource, MakesItem, moment}
@@ -67,6 +67,9 @@ items_all Whole {bytes = bytes} {told = told} {to = to} fed = ap (λ v. cut_item
 items_all Faulted {told = told} fed = append-nil (cut_items told) ∙ ap cut_items (told_all fed)
 items_all TooLong {told = told} fed = append-nil (cut_items told) ∙ ap cut_items (told_all fed)
 
+rest_passed : (n : ℕ) (s : Schema) (content : Option Content) → PassesItem s Rest (rest_report n) content content
+rest_passed n s content = record { reads = λ _. refl; refused = λ _. (refl, refl); kind = λ accepted. absurd (accepted tt); tells = λ accepted. absurd (accepted tt) }
+
 -- the rest is an item that is refused, whatever the form
 rest_made : (f : Form) → ReadsSource f → (n : ℕ) (s : Schema) (content : Option Content) (counts : Counts) → MakesItem f Rest n s s content content counts counts (rest_report n)
 rest_made Run read n s content counts = record {
@@ -76,6 +79,8 @@ rest_made Run read n s content counts = record {
   stands = λ m is. is;
   rises = record { ops = omega arith; entries = omega arith };
   still = λ _. refl;
+  passes = λ _. rest_passed n s content;
+  unopened = λ _. refl;
 }
 rest_made Check read n s content counts = record {
   is = record { number_is = refl; bound_is = refl; few_ops = omega arith; few_entries = omega arith; unread_is = refl; can = refl; defined_is = tt };
@@ -84,6 +89,8 @@ rest_made Check read n s content counts = record {
   stands = λ m is. ap (λ (x : Model). without_rows x.schema) is;
   rises = record { ops = omega arith; entries = omega arith };
   still = λ _. refl;
+  passes = λ some. absurd some;
+  unopened = λ _. refl;
 }
 rest_made (Fill k) read n s content counts = absurd read
 
@@ -99,7 +106,7 @@ served_rest f read s a h' n true refused text =
     Served-one refused (refused || true) (Made-one f Rest n s s a.content a.content a.held h' a.counts a.counts (rest_report n) (rest_made f read n s a.content a.counts) (text ∙ ap (append_known a.held) (sym (shown_printed f read n)))) refl
 served_rest f read s a h' n false refused text = record {
   reports = [];
-  made = record { told = refl; folds = λ m is. (is, tt); still = λ _. refl; text = text; rises = Rises-none a.counts };
+  made = record { told = refl; folds = λ m is. (is, tt); still = λ _. refl; passes = λ _. refl; text = text; rises = Rises-none a.counts };
   refusal = refl;
 }
 

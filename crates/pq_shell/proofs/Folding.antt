@@ -5,6 +5,7 @@ use Rattle.std.proofs.lemmas.List.Folds.{list_any-append}
 use Rattle.std.specs.List.{flat_map, sum_by, list_any}
 use Rattle.std.specs.Io.KnownBytes.{append_known}
 use Rattle.pq_fill.specs.declared.words.Form.{Form}
+use Rattle.pq_fill.specs.declared.words.Form.TheVariants.{Run, Check, Fill}
 use Rattle.pq_schema.specs.Schema.{Schema}
 use Rattle.pq_store.specs.Content.{Content}
 use Rattle.pq_store.specs.Counts.{Counts}
@@ -15,8 +16,8 @@ use Rattle.pq_statement.specs.Actions.{asked_bound}
 use Rattle.pq_catalog.specs.Model.{Model}
 use Rattle.pq_reports.specs.Matches.{Matches}
 use Rattle.pq_reports.specs.Promise.{IsWithinFixed}
-use Rattle.pq_reports.proofs.Promises.{within_none, within_reported}
-use Rattle.pq_shell.specs.Fold.{Moment, IsReport, Reports, RisesBy, IsWithinItem, IsWithinStep, IsPart, AreStill, KeepsItem, AnswersItem, after, ReportedItems, Halts, MadeReports, ServedItems, ShowsDamage, StoppedItem, schema_behind}
+use Rattle.pq_reports.proofs.Promises.{same_left, within_none, within_reported}
+use Rattle.pq_shell.specs.Fold.{Moment, IsReport, Reports, RisesBy, IsWithinItem, IsWithinStep, IsPart, AreStill, KeepsItem, PassesOn, AnswersItem, after, ReportedItems, Halts, MadeReports, ServedItems, ShowsDamage, StoppedItem, schema_behind}
 use Rattle.pq_shell.specs.Forms.{StandsIn, OpensAt, asked_item, item_step, shown_report}
 use Rattle.pq_shell.specs.Items.{Item}
 use Rattle.pq_shell.specs.Making.{MakesItem, moment}
@@ -59,6 +60,13 @@ still-append first mid n (x ∷ xs) ys (r ∷ rs) ss told all =
     let rest = still-append (schema_behind first x r) mid (n + 1) xs ys rs ss told.1 all.1 in
     ((all.0, rest.0), rest.1)
 
+-- what is made of one part after another
+passes-append : (first mid : Schema) (n : ℕ) (xs ys : List Item) (rs ss : List Report) (a b c : Option Content) → Reports first n xs rs mid → PassesOn first xs rs a b → PassesOn mid ys ss b c → PassesOn first (xs ++ ys) (rs ++ ss) a c
+passes-append first mid n [] ys [] ss a b c told p q = subst (λ (s : Schema). PassesOn s ys ss a c) told (subst (λ (x : Option Content). PassesOn mid ys ss x c) p q)
+passes-append first mid n [] ys (r ∷ rs) ss a b c told p q = absurd told
+passes-append first mid n (x ∷ xs) ys [] ss a b c told p q = absurd told
+passes-append first mid n (x ∷ xs) ys (r ∷ rs) ss a b c told p q = (p.0, p.1, passes-append (schema_behind first x r) mid (n + 1) xs ys rs ss p.0 b c told.1 p.2 q)
+
 sum-append : (g : Report → ℕ) (rs ss : List Report) → sum_by g (rs ++ ss) ≡ sum_by g rs + sum_by g ss
 sum-append g rs ss = grind (arith, common_steps)
 
@@ -74,10 +82,10 @@ Rises-none c = record { ops = sym (add-zero c.ops); entries = sym (add-zero c.en
 -- ---- items that were made
 
 pub Made-none : (f : Form) (s : Schema) (a : Moment) (n : ℕ) → MadeReports f s s a a n [] []
-Made-none f s a n = record { told = refl; folds = λ m is. (is, tt); still = λ _. refl; text = sym (append_known-none a.held); rises = Rises-none a.counts }
+Made-none f s a n = record { told = refl; folds = λ m is. (is, tt); still = λ _. refl; passes = λ _. refl; text = sym (append_known-none a.held); rises = Rises-none a.counts }
 
 pub Made-append : {f : Form} {r s t : Schema} {a b c : Moment} {n : ℕ} {xs ys : List Item} {rs ss : List Report} → MadeReports f r s a b n xs rs → MadeReports f s t b c (n + length xs) ys ss → MadeReports f r t a c n (xs ++ ys) (rs ++ ss)
-Made-append {f = f} {r = r} {s = s} {t = t} {a = a} {c = c} {n = n} {xs = xs} {ys = ys} {rs = rs} {ss = ss} p q = record {
+Made-append {f = f} {r = r} {s = s} {t = t} {a = a} {b = b} {c = c} {n = n} {xs = xs} {ys = ys} {rs = rs} {ss = ss} p q = record {
   told = Reports-append r s t n xs ys rs ss p.told q.told;
   folds = λ m is.
       let first = p.folds m is in
@@ -86,6 +94,7 @@ Made-append {f = f} {r = r} {s = s} {t = t} {a = a} {c = c} {n = n} {xs = xs} {y
   still = λ all.
       let parts = still-append r s n xs ys rs ss p.told all in
       q.still parts.1 ∙ p.still parts.0;
+  passes = λ some. passes-append r s n xs ys rs ss a.content b.content c.content p.told (p.passes some) (q.passes some);
   text = q.text ∙ ap (λ k. append_known k (flat_map (shown_report f) ss)) p.text ∙ append_known-append a.held _ _ ∙ ap (append_known a.held) (sym (flat_map-append (shown_report f) rs ss));
   rises = Rises-append rs ss p.rises q.rises;
 }
@@ -97,6 +106,7 @@ Made-one f item n s t old now h h' before after report made text = record {
   told = (made.is, made.next_is);
   folds = λ m is. (made.stands m is, (made.matches m is, tt));
   still = λ all. made.still all.0;
+  passes = λ some. (now, made.passes some, refl);
   text = text ∙ ap (append_known h) (sym (append-nil (shown_report f report)));
   rises = made.rises;
 }
@@ -124,17 +134,22 @@ Served-one {report = report} y y' made refusal = record { reports = report ∷ [
 
 -- ---- stops
 
+-- for want of memory, where nothing was done
+pub kept_same : (s : Schema) (items : List Item) (old now : Option Content) → now ≡ old → KeepsItem stops.NoMem s items old now
+kept_same s [] old now same = same
+kept_same s (x ∷ xs) old now same = inl (same_left s (asked_item s x) old now same)
+
 within_more : (s : Schema) (todo more : List Item) (before now : Counts) → IsWithinItem s todo before now → IsWithinItem s (todo ++ more) before now
 within_more s [] [] before now h = h
 within_more s [] (y ∷ ys) before now h = subst (IsWithinFixed (asked_bound s (asked_item s y)) before) (sym h) (within_none (asked_bound s (asked_item s y)) before)
 within_more s (x ∷ xs) ys before now h = h
 
-part_more : (f : Form) (stop : Stop) (s : Schema) (n : ℕ) (todo more : List Item) (part : List ℕ) (before now : Counts) → IsPart f stop s n todo part before now → IsPart f stop s n (todo ++ more) part before now
-part_more f stops.StoreFailed s n todo more part before now h = (h.0, h.1, within_more s todo more before now h.2)
-part_more f stops.NoMem s n todo more part before now h = (h.0, within_more s todo more before now h.1)
-part_more f (stops.Damaged damage) s n todo more part before now h = (h.0, h.1, within_more s todo more before now h.2)
-part_more f stops.WriteFailed s n [] more part before now h = absurd h
-part_more f stops.WriteFailed s n (x ∷ xs) more part before now h = h
+part_more : (f : Form) (stop : Stop) (s : Schema) (n : ℕ) (todo more : List Item) (part : List ℕ) (before now : Counts) (found left : Option Content) → IsPart f stop s n todo part before now found left → IsPart f stop s n (todo ++ more) part before now found left
+part_more f stops.StoreFailed s n todo more part before now found left h = (h.0, h.1, within_more s todo more before now h.2)
+part_more f stops.NoMem s n todo more part before now found left h = (h.0, within_more s todo more before now h.1)
+part_more f (stops.Damaged damage) s n todo more part before now found left h = (h.0, h.1, within_more s todo more before now h.2)
+part_more f stops.WriteFailed s n [] more part before now found left h = absurd h
+part_more f stops.WriteFailed s n (x ∷ xs) more part before now found left h = h
 
 halts_more : (f : Form) (stop : Stop) (m : Model) (n : ℕ) (todo more : List Item) (now : Option Content) (part : List ℕ) → Halts f stop m n todo now part → Halts f stop m n (todo ++ more) now part
 halts_more f stops.StoreFailed m n [] [] now part h = h
@@ -148,9 +163,12 @@ halts_more f stops.WriteFailed m n (x ∷ xs) more now part h = h
 halts_more f (stops.Damaged damage) m n todo more now part h = absurd h
 
 kept_more : (stop : Stop) (s : Schema) (todo more : List Item) (old now : Option Content) → KeepsItem stop s todo old now → KeepsItem stop s (todo ++ more) old now
-kept_more stops.StoreFailed s todo more old now h = tt
+kept_more stops.StoreFailed s [] [] old now h = h
+kept_more stops.StoreFailed s [] (y ∷ ys) old now h = same_left s (asked_item s y) old now h
+kept_more stops.StoreFailed s (x ∷ xs) more old now h = h
 kept_more stops.WriteFailed s todo more old now h = tt
-kept_more stops.NoMem s todo more old now h = tt
+kept_more stops.NoMem s [] more old now h = kept_same s more old now h
+kept_more stops.NoMem s (x ∷ xs) more old now h = h
 kept_more (stops.Damaged damage) s [] more old now h = absurd h
 kept_more (stops.Damaged damage) s (x ∷ xs) more old now h = h
 
@@ -169,11 +187,11 @@ answered_more answers (stops.Damaged damage) s [] more h = absurd h
 answered_more answers (stops.Damaged damage) s (x ∷ xs) more h = h
 
 -- where nothing is at hand, nothing was used for it
-part_none : (f : Form) (stop : Stop) (s : Schema) (n : ℕ) (part : List ℕ) (before now : Counts) → IsPart f stop s n [] part before now → now ≡ before
-part_none f stops.StoreFailed s n part before now h = h.2
-part_none f stops.NoMem s n part before now h = h.1
-part_none f (stops.Damaged damage) s n part before now h = h.2
-part_none f stops.WriteFailed s n part before now h = absurd h
+part_none : (f : Form) (stop : Stop) (s : Schema) (n : ℕ) (part : List ℕ) (before now : Counts) (found left : Option Content) → IsPart f stop s n [] part before now found left → now ≡ before
+part_none f stops.StoreFailed s n part before now found left h = h.2
+part_none f stops.NoMem s n part before now found left h = h.1
+part_none f (stops.Damaged damage) s n part before now found left h = h.2
+part_none f stops.WriteFailed s n part before now found left h = absurd h
 
 -- which is within any bound
 step_none : (f : Form) (m : Model) (n : ℕ) (items : List Item) (c : Counts) → IsWithinStep f m n items c c
@@ -198,19 +216,20 @@ Stopped-before {answers = answers} {f = f} {stop = stop} {b = b} {n = n} ys p = 
   told = p.told;
   text = p.text;
   rises = p.rises;
-  part_is = part_more f stop p.last (n + length p.done) p.todo ys p.part p.between b.counts p.part_is;
+  part_is = part_more f stop p.last (n + length p.done) p.todo ys p.part p.between b.counts p.begun b.content p.part_is;
   shown = shown_more stop p.last p.todo ys b.content p.shown;
   answered = answered_more answers stop p.last p.todo ys p.answered;
   still = p.still;
+  passes = p.passes;
   kept = kept_more stop p.last p.todo ys p.begun b.content p.kept;
   stands = λ m is. let q = p.stands m is in (q.0, halts_more f stop (after f m n p.done) (n + length p.done) p.todo ys b.content p.part q.1);
   own = λ m is. step_more f (after f m n p.done) (n + length p.done) p.todo ys p.between b.counts
-      (λ none. part_none f stop p.last (n + length p.done) p.part p.between b.counts (subst (λ (items : List Item). IsPart f stop p.last (n + length p.done) items p.part p.between b.counts) none p.part_is)) (p.own m is);
+      (λ none. part_none f stop p.last (n + length p.done) p.part p.between b.counts p.begun b.content (subst (λ (items : List Item). IsPart f stop p.last (n + length p.done) items p.part p.between b.counts p.begun b.content) none p.part_is)) (p.own m is);
 }
 
 -- some items were made, and then the run stopped among others
 pub Stopped-after : {answers : List ℕ → Option (List ℕ) → Type 0} {f : Form} {stop : Stop} {r s : Schema} {a b c : Moment} {n : ℕ} {xs ys : List Item} {rs : List Report} → MadeReports f r s a b n xs rs → StoppedItem answers f stop s b c (n + length xs) ys → StoppedItem answers f stop r a c n (xs ++ ys)
-Stopped-after {f = f} {stop = stop} {r = r} {s = s} {a = a} {c = c} {n = n} {xs = xs} {ys = ys} {rs = rs} p q =
+Stopped-after {f = f} {stop = stop} {r = r} {s = s} {a = a} {b = b} {c = c} {n = n} {xs = xs} {ys = ys} {rs = rs} p q =
     let number : (n + length xs) + length q.done ≡ n + length (xs ++ q.done) = omega (arith, length-append xs q.done) in
     record {
       done = xs ++ q.done;
@@ -224,12 +243,13 @@ Stopped-after {f = f} {stop = stop} {r = r} {s = s} {a = a} {c = c} {n = n} {xs 
       told = Reports-append r s q.last n xs q.done rs q.reports p.told q.told;
       text = q.text ∙ ap (λ k. append_known k (flat_map (shown_report f) q.reports ++ q.part)) p.text ∙ append_known-append a.held _ _ ∙ ap (append_known a.held) (sym (append_assoc (flat_map (shown_report f) rs) (flat_map (shown_report f) q.reports) q.part) ∙ ap (λ t. t ++ q.part) (sym (flat_map-append (shown_report f) rs q.reports)));
       rises = Rises-append rs q.reports p.rises q.rises;
-      part_is = subst (λ k. IsPart f stop q.last k q.todo q.part q.between c.counts) number q.part_is;
+      part_is = subst (λ k. IsPart f stop q.last k q.todo q.part q.between c.counts q.begun c.content) number q.part_is;
       shown = q.shown;
       answered = q.answered;
       still = λ all.
           let parts = still-append r s n xs q.done rs q.reports p.told all in
           q.still parts.1 ∙ p.still parts.0;
+      passes = λ some. passes-append r s n xs q.done rs q.reports a.content b.content q.begun p.told (p.passes some) (q.passes some);
       kept = q.kept;
       stands = λ m is.
           let first = p.folds m is in
@@ -245,7 +265,7 @@ Stopped-after {f = f} {stop = stop} {r = r} {s = s} {a = a} {c = c} {n = n} {xs 
 
 -- the run stopped before any of these items was reported
 pub Stopped-at : {answers : List ℕ → Option (List ℕ) → Type 0} (f : Form) (stop : Stop) (s : Schema) (a b : Moment) (n : ℕ) (items : List Item) (part : List ℕ) → b.held ≡ append_known a.held part
-    → IsPart f stop s n items part a.counts b.counts → ShowsDamage stop s items b.content → AnswersItem answers stop s items → KeepsItem stop s items a.content b.content
+    → IsPart f stop s n items part a.counts b.counts a.content b.content → ShowsDamage stop s items b.content → AnswersItem answers stop s items → KeepsItem stop s items a.content b.content
     → ((m : Model) → StandsIn f a.content s m → Halts f stop m n items b.content part) → ((m : Model) → StandsIn f a.content s m → IsWithinStep f m n items a.counts b.counts) → StoppedItem answers f stop s a b n items
 Stopped-at f stop s a b n items part text is shown answered kept halts own = record {
   done = [];
@@ -259,10 +279,11 @@ Stopped-at f stop s a b n items part text is shown answered kept halts own = rec
   told = refl;
   text = text;
   rises = Rises-none a.counts;
-  part_is = subst (λ k. IsPart f stop s k items part a.counts b.counts) (sym (add-zero n)) is;
+  part_is = subst (λ k. IsPart f stop s k items part a.counts b.counts a.content b.content) (sym (add-zero n)) is;
   shown = shown;
   answered = answered;
   still = λ _. refl;
+  passes = λ _. refl;
   kept = kept;
   stands = λ m is. (tt, subst (λ k. Halts f stop m k items b.content part) (sym (add-zero n)) (halts m is));
   own = λ m is. subst (λ k. IsWithinStep f m k items a.counts b.counts) (sym (add-zero n)) (own m is);
@@ -279,7 +300,7 @@ halts_same f m n (x ∷ xs) now h = inl h
 -- the run stopped for want of memory before the next item was read whole
 pub Stopped-between : {answers : List ℕ → Option (List ℕ) → Type 0} (f : Form) (s : Schema) (a : Moment) (n : ℕ) (items : List Item) → ((m : Model) → StandsIn f a.content s m → OpensAt f a.content m) → StoppedItem answers f stops.NoMem s a a n items
 Stopped-between f s a n items opens =
-    Stopped-at f stops.NoMem s a a n items [] (sym (append_known-none a.held)) (refl, within_nothing s items a.counts) tt tt tt (λ m is. halts_same f m n items a.content (opens m is)) (λ m is. step_none f m n items a.counts)
+    Stopped-at f stops.NoMem s a a n items [] (sym (append_known-none a.held)) (refl, within_nothing s items a.counts) tt tt (kept_same s items a.content a.content refl) (λ m is. halts_same f m n items a.content (opens m is)) (λ m is. step_none f m n items a.counts)
 
 -- what a report tells as used is within the bound of its item
 within_item : (s : Schema) (n : ℕ) (item : Item) (report : Report) (before after : Counts) → IsReport s n item report → RisesBy (report ∷ []) before after → IsWithinFixed (asked_bound s (asked_item s item)) before after
@@ -295,6 +316,12 @@ matched_within expected report before after matches rises =
     let entries = rises.entries in
     record { ops = omega (arith, ops, matches.ops); entries = omega (arith, entries, matches.entries) }
 
+-- what was done of an item for whose report memory was wanting
+kept_made : (f : Form) (item : Item) (n : ℕ) (s t : Schema) (old now : Option Content) (before after : Counts) (report : Report) → MakesItem f item n s t old now before after report → KeepsItem stops.NoMem s (item ∷ []) old now
+kept_made Run item n s t old now before after report made = inr (report, made.passes tt)
+kept_made Check item n s t old now before after report made = kept_same s (item ∷ []) old now (made.unopened (λ some. some))
+kept_made (Fill k) item n s t old now before after report made = inr (report, made.passes tt)
+
 -- the run stopped while this item was reported
 pub Stopped-writing : {answers : List ℕ → Option (List ℕ) → Type 0} (f : Form) (stop : Stop) (item : Item) (n : ℕ) (s t : Schema) (old now : Option Content) (h h' : Option (List ℕ)) (before after : Counts) (report : Report)
     → MakesItem f item n s t old now before after report → ((m : Model) → StandsIn f now t m → OpensAt f now m) → CutsOff stop (shown_report f report) h h'
@@ -303,11 +330,11 @@ Stopped-writing f stops.StoreFailed item n s t old now h h' before after report 
 Stopped-writing f (stops.Damaged damage) item n s t old now h h' before after report made opens cut = absurd cut
 Stopped-writing f stops.NoMem item n s t old now h h' before after report made opens cut =
     Stopped-at f stops.NoMem s (moment old h before) (moment now h' after) n (item ∷ []) [] (cut ∙ sym (append_known-none h))
-    (refl, within_item s n item report before after made.is made.rises) tt tt tt (λ m is. inr (opens (item_step f m n item).model (made.stands m is)))
+    (refl, within_item s n item report before after made.is made.rises) tt tt (kept_made f item n s t old now before after report made) (λ m is. inr (opens (item_step f m n item).model (made.stands m is)))
     (λ m is. matched_within (item_step f m n item).report report before after (made.matches m is) made.rises)
 Stopped-writing f stops.WriteFailed item n s t old now h h' before after report made opens cut =
     Stopped-at f stops.WriteFailed s (moment old h before) (moment now h' after) n (item ∷ []) cut.0 cut.2
-    (report, made.is, cut.1, made.rises) tt tt tt (λ m is. (report, made.matches m is, cut.1, opens (item_step f m n item).model (made.stands m is)))
+    (report, made.is, cut.1, made.rises, made.passes) tt tt tt (λ m is. (report, made.matches m is, cut.1, opens (item_step f m n item).model (made.stands m is)))
     (λ m is. matched_within (item_step f m n item).report report before after (made.matches m is) made.rises)
 
 -- the items by another name
@@ -328,6 +355,7 @@ among_items same p = record {
   shown = p.shown;
   answered = p.answered;
   still = p.still;
+  passes = p.passes;
   kept = p.kept;
   stands = p.stands;
   own = p.own;
@@ -347,10 +375,11 @@ from_number {f = f} {stop = stop} {s = s} {b = b} same p = record {
   told = subst (λ i. Reports s i p.done p.reports p.last) same p.told;
   text = p.text;
   rises = p.rises;
-  part_is = subst (λ i. IsPart f stop p.last (i + length p.done) p.todo p.part p.between b.counts) same p.part_is;
+  part_is = subst (λ i. IsPart f stop p.last (i + length p.done) p.todo p.part p.between b.counts p.begun b.content) same p.part_is;
   shown = p.shown;
   answered = p.answered;
   still = p.still;
+  passes = p.passes;
   kept = p.kept;
   stands = λ m is.
       let q = p.stands m is in (

@@ -21,23 +21,25 @@ use Rattle.pq_print.specs.declared.report.Report.{Report}
 use Rattle.pq_statement.specs.Actions.{action_of, schema_after, statement_bound}
 use Rattle.pq_check.specs.Checks.{checked_as, check_step, without_rows}
 use Rattle.pq_reports.specs.Evidence.{AnswersFor, TellsEvidenceFor}
+use Rattle.pq_reports.specs.Making.{LeavesAsked, MakesAsked}
 use Rattle.pq_reports.specs.Matches.{Matches}
 use Rattle.pq_catalog.specs.Model.{Model}
 use Rattle.pq_reports.specs.Promise.{IsBound, IsRefusal, IsWithinFixed, KeepsDamaged, OnlyReads}
 use Rattle.pq_catalog.specs.Stands.{Opens, Stands, next_key}
 use Rattle.pq_reports.specs.Refusing.{CanEnd, IsUnread}
+use Rattle.pq_reports.specs.Telling.{TellsAsked}
 use Rattle.pq_reports.specs.Step.{Step, step}
 use Rattle.pq_check.specs.Written.{IsPrepareOf, IsDefinedAs}
 use Rattle.pq_check.proofs.Checked.{check_by, is_check_step}
 use Rattle.pq_reports.proofs.Promises.{within_none}
-use Rattle.pq_shell.specs.Fold.{DefinesAsWritten, IsStill}
+use Rattle.pq_shell.specs.Fold.{DefinesAsWritten, IsStill, PassesItem}
 use Rattle.pq_shell.specs.Forms.{HasOpening, StandsIn, OpensAt, item_step, shown_report}
 use Rattle.pq_shell.specs.Items.{Cut}
 use Rattle.pq_shell.specs.Making.{BreaksAt, ReadsSource, MakesItem, moment}
 use Rattle.pq_console.specs.Stops.{CutsOff, stop_of_broke}
 use Rattle.pq_console.specs.declared.stop.Stop.{Stop}
 use Rattle.pq_console.specs.declared.stop.Stop.TheVariants as stops
-use Rattle.pq_shell.proofs.Folding.{Stopped-at}
+use Rattle.pq_shell.proofs.Folding.{Stopped-at, kept_same}
 use Rattle.pq_console.proofs.Known.{append_known-none}
 
 -- ---- what is written of a report
@@ -61,7 +63,9 @@ module _ (number : ℕ) (piece : Piece) (s : Schema) (old now : Option Content) 
       (ops : after.ops ≡ before.ops + report.used.ops) (entries : after.entries ≡ before.entries + report.used.entries)
       (unread : IsUnread number (action_of s piece) report) (can : CanEnd s (action_of s piece) report.end)
       (refused : IsRefusal report.end → (now ≡ old) × (next ≡ s)) (reads : OnlyReads (action_of s piece) → now ≡ old)
-      (defined : (written : Query) → IsPrepareOf s written piece → is_refusal report ≡ false → IsDefinedAs s.tables written next) where
+      (defined : (written : Query) → IsPrepareOf s written piece → is_refusal report ≡ false → IsDefinedAs s.tables written next)
+      (tells : (IsRefusal report.end → ⊥) → IfSome old (λ content. MakesAsked s (action_of s piece) content now report)) (kind : (IsRefusal report.end → ⊥) → TellsAsked s (action_of s piece) report)
+      (bare : IsRefusal report.end → report.lines ≡ []) where
     defined_behind : DefinesAsWritten s (Cut piece) report
     defined_behind written is accepted = subst (IsDefinedAs s.tables written) next_is (defined written is accepted)
 
@@ -75,6 +79,9 @@ module _ (number : ℕ) (piece : Piece) (s : Schema) (old now : Option Content) 
     still_over (inl only) = reads only
     still_over (inr is) = refused_same report.end refused is
 
+    passed : PassesItem s (Cut piece) report old now
+    passed = record { reads = reads; refused = λ is. ((refused is).0, bare is); kind = kind; tells = tells }
+
     pub made_over : (f : Form) → HasOpening f → MakesItem f (Cut piece) number s next old now before after report
     made_over Run some = record {
       is = record { number_is = numbered; bound_is = bound; few_ops = few_ops; few_entries = few_entries; unread_is = unread; can = can; defined_is = defined_behind };
@@ -83,6 +90,8 @@ module _ (number : ℕ) (piece : Piece) (s : Schema) (old now : Option Content) 
       stands = made;
       rises = record { ops = omega (arith, ops); entries = omega (arith, entries) };
       still = still_over;
+      passes = λ _. passed;
+      unopened = λ none. absurd (none tt);
     }
     made_over Check some = absurd some
     made_over (Fill n) some = record {
@@ -92,27 +101,29 @@ module _ (number : ℕ) (piece : Piece) (s : Schema) (old now : Option Content) 
       stands = made;
       rises = record { ops = omega (arith, ops); entries = omega (arith, entries) };
       still = still_over;
+      passes = λ _. passed;
+      unopened = λ none. absurd (none tt);
     }
 
   broke_at : {answers : List ℕ → Option (List ℕ) → Type 0} (f : Form) (error : Broke) → HasOpening f → ((m : Model) → StandsIn f old s m → OpensAt f now m ⊎ OpensAt f now (item_step f m number (Cut piece)).model)
       → ((m : Model) → StandsIn f old s m → IsUndamaged error) → IsWithinFixed (statement_bound s piece) before after → IfSome now (λ content. TellsEvidenceFor (action_of s piece) s content error)
       → ((m : Model) → StandsIn f old s m → TakesAtMost (item_step f m number (Cut piece)).report.bound before after)
-      → KeepsDamaged s (action_of s piece) old now error → IsAnsweredBut (AnswersFor s (action_of s piece) answers) (next_key s) error → BreaksAt answers f (stop_of_broke error) (Cut piece) number s old now before after
-  broke_at f broke.Failed some stops_at sound within shown own kept answered held =
-      Stopped-at f stops.StoreFailed s (moment old held before) (moment now held after) number (Cut piece ∷ []) [] (sym (append_known-none held)) (some, refl, within) tt tt tt stops_at own
-  broke_at f broke.NoMem some stops_at sound within shown own kept answered held =
-      Stopped-at f stops.NoMem s (moment old held before) (moment now held after) number (Cut piece ∷ []) [] (sym (append_known-none held)) (refl, within) tt tt tt stops_at own
-  broke_at f (broke.Damaged damage) some stops_at sound within shown own kept answered held =
+      → KeepsDamaged s (action_of s piece) old now error → IfSome old (λ content. LeavesAsked s (action_of s piece) content now) → IsAnsweredBut (AnswersFor s (action_of s piece) answers) (next_key s) error → BreaksAt answers f (stop_of_broke error) (Cut piece) number s old now before after
+  broke_at f broke.Failed some stops_at sound within shown own kept left answered held =
+      Stopped-at f stops.StoreFailed s (moment old held before) (moment now held after) number (Cut piece ∷ []) [] (sym (append_known-none held)) (some, refl, within) tt tt left stops_at own
+  broke_at f broke.NoMem some stops_at sound within shown own kept left answered held =
+      Stopped-at f stops.NoMem s (moment old held before) (moment now held after) number (Cut piece ∷ []) [] (sym (append_known-none held)) (refl, within) tt tt (inl left) stops_at own
+  broke_at f (broke.Damaged damage) some stops_at sound within shown own kept left answered held =
       Stopped-at f (stops.Damaged damage) s (moment old held before) (moment now held after) number (Cut piece ∷ []) [] (sym (append_known-none held)) (some, refl, within) shown answered kept (λ m is. absurd (sound m is)) own
 
   -- the session broke off at this item
   pub broke_over : {answers : List ℕ → Option (List ℕ) → Type 0} (f : Form) (error : Broke) → HasOpening f → ((m : Model) → Stands old s m → Opens now m ⊎ Opens now (step m number piece).model) → ((m : Model) → Stands old s m → IsUndamaged error)
       → IsWithinFixed (statement_bound s piece) before after → IfSome now (λ content. TellsEvidenceFor (action_of s piece) s content error)
       → ((m : Model) → Stands old s m → TakesAtMost (step m number piece).report.bound before after)
-      → KeepsDamaged s (action_of s piece) old now error → IsAnsweredBut (AnswersFor s (action_of s piece) answers) (next_key s) error → BreaksAt answers f (stop_of_broke error) (Cut piece) number s old now before after
-  broke_over Run error some stops_at sound within shown own kept answered = broke_at Run error some stops_at sound within shown own kept answered
-  broke_over Check error some stops_at sound within shown own kept answered = absurd some
-  broke_over (Fill n) error some stops_at sound within shown own kept answered = broke_at (Fill n) error some stops_at sound within shown own kept answered
+      → KeepsDamaged s (action_of s piece) old now error → IfSome old (λ content. LeavesAsked s (action_of s piece) content now) → IsAnsweredBut (AnswersFor s (action_of s piece) answers) (next_key s) error → BreaksAt answers f (stop_of_broke error) (Cut piece) number s old now before after
+  broke_over Run error some stops_at sound within shown own kept left answered = broke_at Run error some stops_at sound within shown own kept left answered
+  broke_over Check error some stops_at sound within shown own kept left answered = absurd some
+  broke_over (Fill n) error some stops_at sound within shown own kept left answered = broke_at (Fill n) error some stops_at sound within shown own kept left answered
 
 -- ---- for a check
 
@@ -150,10 +161,12 @@ module _ (number : ℕ) (piece : Piece) (s : Schema) (content : Option Content) 
         stands = λ m is. ap (λ (x : Model). (check_step x number piece).model) is ∙ model;
         rises = record { ops = omega (arith, no_ops); entries = omega (arith, no_entries) };
         still = λ _. refl;
+        passes = λ some. absurd some;
+        unopened = λ _. refl;
       }
 
   -- there was no memory for it
   pub lost_checked : {answers : List ℕ → Option (List ℕ) → Type 0} → BreaksAt answers Check stops.NoMem (Cut piece) number s content content counts counts
   lost_checked held =
       Stopped-at Check stops.NoMem s (moment content held counts) (moment content held counts) number (Cut piece ∷ []) [] (sym (append_known-none held))
-      (refl, within_none (statement_bound s piece) counts) tt tt tt (λ m is. inl tt) (λ m is. record { ops = omega arith; entries = omega arith })
+      (refl, within_none (statement_bound s piece) counts) tt tt (kept_same s (Cut piece ∷ []) content content refl) (λ m is. inl tt) (λ m is. record { ops = omega arith; entries = omega arith })

@@ -14,8 +14,10 @@ use Rattle.pq_statement.specs.Actions.{asked_bound, asked_schema}
 use Rattle.pq_reports.specs.Evidence.{IsEvidenceFor}
 use Rattle.pq_catalog.specs.Model.{Model}
 use Rattle.pq_reports.specs.Matches.{Matches}
-use Rattle.pq_reports.specs.Promise.{IsBound, IsWithinFixed, OnlyReads, StopsAsked}
+use Rattle.pq_reports.specs.Making.{LeavesAsked, MakesAsked}
+use Rattle.pq_reports.specs.Promise.{IsBound, IsRefusal, IsWithinFixed, OnlyReads, StopsAsked}
 use Rattle.pq_reports.specs.Refusing.{CanEnd, IsUnread}
+use Rattle.pq_reports.specs.Telling.{TellsAsked}
 use Rattle.pq_shell.specs.Answered.{IsAnsweredFor}
 use Rattle.pq_check.specs.Written.{IsPrepareOf, IsDefinedAs}
 use Rattle.pq_shell.specs.Forms.{item_step, asked_item, shown_report, HasOpening, StandsIn, OpensAt}
@@ -62,6 +64,28 @@ Reports first number (item ∷ items) [] last = ⊥
 Reports first number (item ∷ items) (report ∷ reports) last =
     IsReport first number item report × Reports (schema_behind first item report) (number + 1) items reports last
 
+-- ---- what is made of the content, whether it stands for a model or not
+
+-- an item was made over a store, and this is its report: what only reads changes nothing; a refusal changes nothing and
+-- has no lines; of what is not refused the definitions and the text fix the kind of the report, and of a told content
+-- also what was made of it and what was told
+pub record PassesItem (schema : Schema) (item : Item) (report : Report) (old now : Option Content) : Type 0 where
+  pub reads : OnlyReads (asked_item schema item) → now ≡ old
+  pub refused : IsRefusal report.end → (now ≡ old) × (report.lines ≡ [])
+  pub kind : (IsRefusal report.end → ⊥) → TellsAsked schema (asked_item schema item) report
+  pub tells : (IsRefusal report.end → ⊥)
+      → IfSome old (λ content. MakesAsked schema (asked_item schema item) content now report)
+
+-- each of these items was made so of what the items before it had left
+abbrev pub PassesOn : Schema → List Item → List Report → Option Content → Option Content → Type 0
+PassesOn schema [] reports from to = to ≡ from
+PassesOn schema (item ∷ items) [] from to = ⊥
+PassesOn schema (item ∷ items) (report ∷ reports) from to =
+    (mid : Option Content) × PassesItem schema item report from mid
+    × PassesOn (schema_behind schema item report) items reports mid to
+
+-- ---- what is used and told where a run stops
+
 -- the meter rose by what these reports tell as used
 pub record RisesBy (reports : List Report) (before now : Counts) : Type 0 where
   pub ops : now.ops ≡ before.ops + sum_by (λ r. r.used.ops) reports
@@ -72,22 +96,27 @@ abbrev pub IsWithinItem : Schema → List Item → Counts → Counts → Type 0
 IsWithinItem schema [] before now = now ≡ before
 IsWithinItem schema (item ∷ items) before now = IsWithinFixed (asked_bound schema (asked_item schema item)) before now
 
--- this much of the report of the item at hand is out, and the meter rose by what it tells as used
-abbrev pub CutsReport : Form → Schema → ℕ → List Item → List ℕ → Counts → Counts → Type 0
-CutsReport form schema number [] part before now = ⊥
-CutsReport form schema number (item ∷ items) part before now =
+-- this much of the report of the item at hand is out, and the meter rose by what it tells as used; the item was made of
+-- the content that it found
+abbrev pub CutsReport : Form → Schema → ℕ → List Item → List ℕ → Counts → Counts → Option Content → Option Content
+    → Type 0
+CutsReport form schema number [] part before now found left = ⊥
+CutsReport form schema number (item ∷ items) part before now found left =
     (report : Report) × IsReport schema number item report × IsCut part (shown_report form report)
-    × RisesBy (report ∷ []) before now
+    × RisesBy (report ∷ []) before now × (HasOpening form → PassesItem schema item report found left)
 
 -- what is out behind whole reports where a run stops, and what was used for the item at hand; a check stops
 -- for no store
-abbrev pub IsPart : Form → Stop → Schema → ℕ → List Item → List ℕ → Counts → Counts → Type 0
-IsPart form stops.StoreFailed schema number todo part before now =
+abbrev pub IsPart : Form → Stop → Schema → ℕ → List Item → List ℕ → Counts → Counts → Option Content
+    → Option Content → Type 0
+IsPart form stops.StoreFailed schema number todo part before now found left =
     HasOpening form × (part ≡ []) × IsWithinItem schema todo before now
-IsPart form stops.NoMem schema number todo part before now = (part ≡ []) × IsWithinItem schema todo before now
-IsPart form (stops.Damaged damage) schema number todo part before now =
+IsPart form stops.NoMem schema number todo part before now found left =
+    (part ≡ []) × IsWithinItem schema todo before now
+IsPart form (stops.Damaged damage) schema number todo part before now found left =
     HasOpening form × (part ≡ []) × IsWithinItem schema todo before now
-IsPart form stops.WriteFailed schema number todo part before now = CutsReport form schema number todo part before now
+IsPart form stops.WriteFailed schema number todo part before now found left =
+    CutsReport form schema number todo part before now found left
 
 -- damage is named with what shows it in what is there now, for these definitions
 abbrev pub ShowsDamage : Stop → Schema → List Item → Option Content → Type 0
@@ -120,14 +149,21 @@ AreStill schema (item ∷ items) [] = Unit {0}
 AreStill schema (item ∷ items) (report ∷ reports) =
     IsStill schema item report × AreStill (schema_behind schema item report) items reports
 
--- damage leaves what was there as the item at hand began, but for an index that was being made
+-- damage leaves what was there as the item at hand began, but for an index that was being made; where a call failed
+-- nothing was done, or some of what was asked for; and where memory was wanting the same, or all of it was done and its
+-- report couldn't be made. What was done where a report is cut stands with the report
 abbrev pub KeepsItem : Stop → Schema → List Item → Option Content → Option Content → Type 0
 KeepsItem (stops.Damaged damage) schema [] old now = ⊥
 KeepsItem (stops.Damaged damage) schema (item ∷ items) old now =
     IfSome old (λ content. StopsAsked schema (asked_item schema item) content now)
-KeepsItem stops.StoreFailed schema todo old now = Unit {0}
+KeepsItem stops.StoreFailed schema [] old now = now ≡ old
+KeepsItem stops.StoreFailed schema (item ∷ items) old now =
+    IfSome old (λ content. LeavesAsked schema (asked_item schema item) content now)
 KeepsItem stops.WriteFailed schema todo old now = Unit {0}
-KeepsItem stops.NoMem schema todo old now = Unit {0}
+KeepsItem stops.NoMem schema [] old now = now ≡ old
+KeepsItem stops.NoMem schema (item ∷ items) old now =
+    IfSome old (λ content. LeavesAsked schema (asked_item schema item) content now)
+    ⊎ ((report : Report) × PassesItem schema item report old now)
 
 -- ---- over a model
 
@@ -175,6 +211,7 @@ pub record MadeReports (form : Form) (first last : Schema) (from to : Moment) (n
   pub folds : (m : Model) → StandsIn form from.content first m
       → StandsIn form to.content last (after form m number items) × ReportedItems form m number items reports
   pub still : AreStill first items reports → to.content ≡ from.content
+  pub passes : HasOpening form → PassesOn first items reports from.content to.content
   pub text : to.held ≡ append_known from.held (flat_map (shown_report form) reports)
   pub rises : RisesBy reports from.counts to.counts
 
@@ -199,10 +236,11 @@ pub record StoppedItem (answers : List ℕ → Option (List ℕ) → Type 0) (fo
   pub told : Reports first number done reports last
   pub text : now.held ≡ append_known from.held (flat_map (shown_report form) reports ++ part)
   pub rises : RisesBy reports from.counts between
-  pub part_is : IsPart form stop last (number + length done) todo part between now.counts
+  pub part_is : IsPart form stop last (number + length done) todo part between now.counts begun now.content
   pub shown : ShowsDamage stop last todo now.content
   pub answered : AnswersItem answers stop last todo
   pub still : AreStill first done reports → begun ≡ from.content
+  pub passes : HasOpening form → PassesOn first done reports from.content begun
   pub kept : KeepsItem stop last todo begun now.content
   pub stands : (m : Model) → StandsIn form from.content first m
       → ReportedItems form m number done reports

@@ -8,8 +8,8 @@ use Rattle.pq_store.specs.Counts.{Counts}
 use Rattle.pq_print.specs.declared.report.Report.{Report}
 use Rattle.pq_reports.specs.Matches.{Matches}
 use Rattle.pq_catalog.specs.Model.{Model}
-use Rattle.pq_shell.specs.Fold.{Moment, IsReport, IsStill, RisesBy, StoppedItem, schema_behind}
-use Rattle.pq_shell.specs.Forms.{item_step, StandsIn}
+use Rattle.pq_shell.specs.Fold.{Moment, IsReport, IsStill, PassesItem, RisesBy, StoppedItem, schema_behind}
+use Rattle.pq_shell.specs.Forms.{item_step, HasOpening, StandsIn}
 use Rattle.pq_shell.specs.Items.{Item}
 use Rattle.pq_console.specs.declared.stop.Stop.{Stop}
 
@@ -28,6 +28,8 @@ pub record MakesItem (form : Form) (item : Item) (number : ℕ) (schema next : S
   pub stands : (m : Model) → StandsIn form old schema m → StandsIn form now next (item_step form m number item).model
   pub rises : RisesBy (report ∷ []) before after
   pub still : IsStill schema item report → now ≡ old
+  pub passes : HasOpening form → PassesItem schema item report old now
+  pub unopened : (HasOpening form → ⊥) → now ≡ old
 
 abbrev pub moment : Option Content → Option (List ℕ) → Counts → Moment
 moment content held counts = record { content = content; held = held; counts = counts }

@@ -1,9 +1,10 @@
 //! The sorted join.
-ghost use Rattle.std.specs.Prelude.{length, option_copied, IfOk, IfErr, IfSome};
+ghost use Rattle.std.specs.Prelude.{◌≤◌, ◌+◌, length, option_copied, IfOk, IfErr, IfSome};
 ghost use Rattle.pq_store.specs.Breaks.{IsAnswered};
 ghost use Rattle.pq_calls.specs.World.{world};
 ghost use Rattle.pq_plan.specs.Nodes.{stop_scan};
 ghost use Rattle.pq_nodes.specs.Operators.{IsAsked, IsReadyNode, AreInputs, IsCursor, AffordsNode, ReadsNode, AreFound, AnswersNode, StopsReading, IsSoundOverRows};
+ghost use Rattle.pq_nodes.specs.Rounds.{node_rounds};
 ghost use Rattle.pq_scan.specs.Scanned.{AreFirstScanned};
 
 use pq_base::{List, Row};
@@ -50,6 +51,7 @@ pub fn sorted_join<S: Store<L>, L: Ledger>(
     ensures cause { IfErr result (StopsReading catalog.now.tables (world (S.content store.old)
         (S.faults store.old) allowance.old meter.old)
         (world (S.content store.new) (S.faults store.new) allowance.new meter.new)) }
+    ensures rounds { S.rounds store.new ≤ S.rounds store.old + node_rounds (stop_scan rel k access) }
     ensures answered { IfErr result (IsAnswered S.answers) }
     ensures undamaged { IfErr result (IsSoundOverRows (S.content store.old) catalog.now.tables) }
 {

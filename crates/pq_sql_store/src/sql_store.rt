@@ -5,7 +5,7 @@ ghost use Rattle.pq_store.specs.Content.{HasRisen};
 use crate::database::Database;
 use crate::statements::{Shape, make_table, read_shape};
 use pq_base::{Bytes, List};
-use pq_store::{Guard, Meter, Pair, Store, StoreErr, is_part};
+use pq_store::{Allowance, Ends, Guard, Meter, Pair, Store, StoreErr, Test, is_part};
 use sqlite::{Alter, Connection, Error, ErrorCode};
 use std::alloc::Global;
 use std::marker::Model;
@@ -208,5 +208,36 @@ impl<L: Ledger, D: Alter> Store<L> for SqlStore<D> {
             Ok(None) => Err(self.fault()),
             Err(error) => Err(self.refused(&error)),
         }
+    }
+
+    fn gets(
+        &mut self,
+        alloc: Global,
+        keys: &[Option<Bytes>],
+        allowance: &mut Allowance,
+        meter: &mut Meter<L>,
+    ) -> Result<List<Option<Bytes>>, StoreErr> {
+        self.gets_singly(alloc, keys, allowance, meter)
+    }
+
+    fn ranges(
+        &mut self,
+        alloc: Global,
+        asks: &[Option<Ends>],
+        limit: u32,
+        allowance: &mut Allowance,
+        meter: &mut Meter<L>,
+    ) -> Result<List<List<Pair>>, StoreErr> {
+        self.ranges_singly(alloc, asks, limit, allowance, meter)
+    }
+
+    fn first_held(
+        &mut self,
+        alloc: Global,
+        tests: &[Test],
+        allowance: &mut Allowance,
+        meter: &mut Meter<L>,
+    ) -> Result<Option<usize>, StoreErr> {
+        self.first_held_singly(alloc, tests, allowance, meter)
     }
 }

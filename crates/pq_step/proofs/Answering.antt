@@ -35,6 +35,13 @@ module _ (schema : Schema) (answers : List ℕ → Option (List ℕ) → Type 0)
     answered_but (Err (broke.Damaged damage)) (inl told) = inl (answers_for asked damage.key damage.value told)
     answered_but (Err (broke.Damaged damage)) (inr of) = inr of
 
+    -- where no index is made
+    pub answered_plain : (result : Result A Broke) → IfErr result (IsAnswered answers) → IfErr result (IsAnswered (AnswersFor schema asked answers))
+    answered_plain (Ok made) told = tt
+    answered_plain (Err broke.Failed) told = tt
+    answered_plain (Err broke.NoMem) told = tt
+    answered_plain (Err (broke.Damaged damage)) told = answers_for asked damage.key damage.value told
+
     pub answered_for : (result : Result A Broke) → IfErr result (IsAnswered answers) → IfErr result (IsAnsweredBut (AnswersFor schema asked answers) next)
     answered_for (Ok made) told = tt
     answered_for (Err broke.Failed) told = tt

@@ -1,1 +1,3 @@
 pub mod Paged
+pub mod Rounds
+pub mod Unbuilt

@@ -1,12 +1,13 @@
 //! PREPARE: a query that was planned is defined, with the index that it wants.
-ghost use Rattle.std.specs.Prelude.{Result, IfErr};
+ghost use Rattle.std.specs.Prelude.{◌≡◌, None, Result, IfErr};
 ghost use Rattle.pq_base.specs.declared.refusal.Refusal.{Refusal};
 ghost use Rattle.pq_store.specs.Content.{HasBrokeCause};
-ghost use Rattle.pq_store.specs.Breaks.{IsAnsweredBut};
+ghost use Rattle.pq_store.specs.Breaks.{IsAnswered, IsAnsweredBut};
 ghost use Rattle.pq_reports.specs.Promise.{Promises};
 ghost use Rattle.pq_statement.specs.Actions.{Action, Prepares};
 ghost use Rattle.pq_statement.specs.Requests.{IsDefinable, IsPlannedAs};
 ghost use Rattle.pq_catalog.specs.Stands.{next_key};
+ghost use Rattle.pq_step.specs.Rounds.{AsksPrepared};
 
 use pq_catalog::PlannedCatalog;
 use pq_compile::Compiled;
@@ -30,8 +31,10 @@ pub(crate) fn define_query<S: Store<L>, L: Ledger>(
     requires { IsDefinable planned plan }
     ensures step { (asked : Result Action Refusal) → IsPlannedAs Prepares asked plan
         → Promises number asked (S.content store.old) (S.content store.new) planned meter.old meter.new result }
+    ensures rounds { AsksPrepared plan.compiled.wanted (S.rounds store.old) (S.rounds store.new) }
     ensures cause { HasBrokeCause (S.faults store.old) (S.faults store.new) result }
     ensures answered { IfErr result (IsAnsweredBut S.answers (next_key planned)) }
+    ensures unbuilt { plan.compiled.wanted ≡ None → IfErr result (IsAnswered S.answers) }
 {
     let lines = planned_lines(alloc, planned.catalog(), &plan)?;
     let PlannedQuery { query, compiled } = plan;

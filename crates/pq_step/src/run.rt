@@ -9,6 +9,7 @@ ghost use Rattle.pq_running.specs.Running.{IsQueryNumber, running_with};
 ghost use Rattle.pq_statement.specs.Actions.{Runs};
 ghost use Rattle.pq_reports.specs.Promise.{Promises};
 ghost use Rattle.pq_step.specs.Paged.{page_report};
+ghost use Rattle.pq_step.specs.Rounds.{AsksQuery};
 
 use pq_base::{List, NoMem, Row};
 use pq_catalog::PlannedCatalog;
@@ -67,6 +68,7 @@ pub(crate) fn run_query<S: Store<L>, L: Ledger>(
     ensures step { Promises number
         (Ok (Runs (running_with query (query_at planned query) params.now (option_copied after.entry))))
         (S.content store.old) (S.content store.new) planned meter.old meter.new result }
+    ensures rounds { AsksQuery planned.tables (query_at planned query) (S.rounds store.old) (S.rounds store.new) }
     ensures cause { HasBrokeCause (S.faults store.old) (S.faults store.new) result }
     ensures answered { IfErr result (IsAnswered S.answers) }
 {

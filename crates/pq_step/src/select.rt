@@ -7,6 +7,7 @@ ghost use Rattle.pq_planning.specs.Planned.{IsComputed, IsOnce};
 ghost use Rattle.pq_statement.specs.Actions.{Action, Selects};
 ghost use Rattle.pq_statement.specs.Requests.{IsPlannedAs};
 ghost use Rattle.pq_reports.specs.Promise.{Promises};
+ghost use Rattle.pq_step.specs.Rounds.{AsksQuery};
 
 use crate::run::page_report;
 use pq_catalog::PlannedCatalog;
@@ -30,6 +31,7 @@ pub(crate) fn select_query<S: Store<L>, L: Ledger>(
     requires once { IsOnce plan.now }
     ensures step { (asked : Result Action Refusal) → IsPlannedAs Selects asked plan.now
         → Promises number asked (S.content store.old) (S.content store.new) planned meter.old meter.new result }
+    ensures rounds { AsksQuery planned.tables plan.now.query (S.rounds store.old) (S.rounds store.new) }
     ensures cause { HasBrokeCause (S.faults store.old) (S.faults store.new) result }
     ensures answered { IfErr result (IsAnswered S.answers) }
 {

@@ -1,15 +1,17 @@
 //! The step of a statement over the definitions of a store.
-ghost use Rattle.std.specs.Prelude.{◌≡◌, ◌≤◌, ◌<◌, ◌+◌, ◌⊎◌, IfOk, IfErr, IfSome, OnErr, Ok, Result, false};
+ghost use Rattle.std.specs.Prelude.{◌≡◌, ◌≤◌, ◌<◌, ◌+◌, ◌⊎◌, [], IfOk, IfErr, IfSome, OnErr, Ok, Result, false};
 ghost use Rattle.pq_intent.specs.Spending.{TakesAtMost};
 ghost use Rattle.pq_store.specs.Content.{HasBrokeCause};
 ghost use Rattle.pq_base.specs.declared.refusal.Refusal.{Refusal};
 ghost use Rattle.pq_catalog.specs.Model.{Model as Tables};
-ghost use Rattle.pq_store.specs.Breaks.{IsUndamaged, IsAnsweredBut};
+ghost use Rattle.pq_store.specs.Breaks.{IsUndamaged, IsAnswered, IsAnsweredBut};
+ghost use Rattle.pq_reports.specs.Making.{IsWithinAsked, LeavesAsked, MakesAsked};
 ghost use Rattle.pq_reports.specs.Matches.{Matches};
 ghost use Rattle.pq_reports.specs.Evidence.{AnswersFor, TellsEvidenceFor};
 ghost use Rattle.pq_statement.specs.Actions.{Action, action_of, schema_after, statement_bound};
 ghost use Rattle.pq_reports.specs.Promise.{Promises, IsBound, IsRefusal, IsWithinFixed, KeepsDamaged, LacksMemory, OnlyReads};
 ghost use Rattle.pq_reports.specs.Refusing.{CanEnd, IsUnread};
+ghost use Rattle.pq_reports.specs.Telling.{TellsAsked};
 ghost use Rattle.pq_statement.specs.Requests.{Asks, IsRequest};
 ghost use Rattle.pq_catalog.specs.Stands.{Stands, Opens, next_key};
 ghost use Rattle.pq_builds.specs.Bounds.{bound};
@@ -17,6 +19,8 @@ ghost use Rattle.pq_reports.specs.Step.{step};
 ghost use Rattle.pq_check.specs.Written.{IsPrepareOf, IsDefinedAs};
 ghost use Rattle.pq_print.specs.Report.{is_refusal};
 ghost use Rattle.pq_schema.specs.declared.query.Query.{Query};
+ghost use Rattle.pq_step.specs.Rounds.{AsksAsked};
+ghost use Rattle.pq_step.specs.Unbuilt.{MakesNoIndex};
 
 use crate::prepare::define_query;
 use crate::run::run_query;
@@ -75,6 +79,13 @@ pub fn statement<S: Store<L>, L: Ledger>(
     // query as it is written.
     ensures arranged { IfOk result (λ p. (written : Query) → IsPrepareOf planned written piece.now
         → is_refusal p.1 ≡ false → IsDefinedAs planned.tables written p.0) }
+    // Over any content that is told, whether it stands for a model or not: what isn't refused was made, by what that
+    // content has. And over every store a report is of the kind of what was asked for, and its lines are.
+    ensures tells { IfOk result (λ p. (IsRefusal p.1.end → ⊥) → IfSome (S.content store.old)
+        (λ content. MakesAsked planned (action_of planned piece.now) content (S.content store.new) p.1)) }
+    ensures kind { IfOk result (λ p. (IsRefusal p.1.end → ⊥)
+        → TellsAsked planned (action_of planned piece.now) p.1) }
+    ensures bare { IfOk result (λ p. IsRefusal p.1.end → p.1.lines ≡ []) }
     ensures stopped { OnErr result ((m : Tables) → Stands (S.content store.old) planned m
         → Opens (S.content store.new) m ⊎ Opens (S.content store.new) (step m number piece.now).model) }
     ensures damage { IfErr result (λ broke. (m : Tables) → Stands (S.content store.old) planned m
@@ -85,17 +96,27 @@ pub fn statement<S: Store<L>, L: Ledger>(
     // Damage leaves the content as it was; but an index that was being made is left as it is, with its mark.
     ensures kept { IfErr result (KeepsDamaged planned (action_of planned piece.now) (S.content store.old)
         (S.content store.new)) }
+    // Whatever content is told and whatever breaks it off: nothing is done, or some of what was asked for, as that
+    // content has it. An index that is made takes no more than its table's rows there need.
+    ensures left { OnErr result (IfSome (S.content store.old)
+        (λ content. LeavesAsked planned (action_of planned piece.now) content (S.content store.new))) }
+    ensures within_rows { OnErr result (IfSome (S.content store.old)
+        (λ content. IsWithinAsked (action_of planned piece.now) content meter.old meter.new)) }
     // Damage is told with what shows it in the content that was there, and in what is there now; by a batch with the
     // changes of the writes before the one at hand.
     ensures shown { IfErr result (λ broke. IfSome (S.content store.old)
         (λ content. TellsEvidenceFor (action_of planned piece.now) planned content broke)) }
     ensures lasting { IfErr result (λ broke. IfSome (S.content store.new)
         (λ content. TellsEvidenceFor (action_of planned piece.now) planned content broke)) }
+    // Over every store: how often it is asked, by what the piece asks for. Where an index is made, the rows decide.
+    ensures rounds { AsksAsked planned (action_of planned piece.now) (S.rounds store.old) (S.rounds store.new) }
     ensures cause { HasBrokeCause (S.faults store.old) (S.faults store.new) result }
     // Damage is told of what a call answered, in a batch behind the changes of the writes before; or, where an index
-    // is made, of its definition's key alone.
+    // is made, of its definition's key alone: of no other statement.
     ensures answered { IfErr result (IsAnsweredBut (AnswersFor planned (action_of planned piece.now) S.answers)
         (next_key planned)) }
+    ensures unbuilt { MakesNoIndex (action_of planned piece.now)
+        → IfErr result (IsAnswered (AnswersFor planned (action_of planned piece.now) S.answers)) }
 {
     planned.known();
     make_piece(alloc, planned, number, piece, store, meter)
@@ -112,9 +133,12 @@ fn make_piece<S: Store<L>, L: Ledger>(
 ) -> Result<(PlannedCatalog, Report), Broke>
     ensures step { Promises number (action_of planned piece.now) (S.content store.old) (S.content store.new) planned
         meter.old meter.new result }
+    ensures rounds { AsksAsked planned (action_of planned piece.now) (S.rounds store.old) (S.rounds store.new) }
     ensures cause { HasBrokeCause (S.faults store.old) (S.faults store.new) result }
     ensures answered { IfErr result (IsAnsweredBut (AnswersFor planned (action_of planned piece.now) S.answers)
         (next_key planned)) }
+    ensures unbuilt { MakesNoIndex (action_of planned piece.now)
+        → IfErr result (IsAnswered (AnswersFor planned (action_of planned piece.now) S.answers)) }
 {
     match request_of(alloc, &planned, piece) {
         Err(Stopped::NoMem) => Err(Broke::NoMem),
@@ -135,9 +159,13 @@ fn act<S: Store<L>, L: Ledger>(
     requires { IsRequest planned request }
     ensures step { (asked : Result Action Refusal) → Asks planned request asked
         → Promises number asked (S.content store.old) (S.content store.new) planned meter.old meter.new result }
+    ensures rounds { (asked : Result Action Refusal) → Asks planned request asked
+        → AsksAsked planned asked (S.rounds store.old) (S.rounds store.new) }
     ensures cause { HasBrokeCause (S.faults store.old) (S.faults store.new) result }
     ensures answered { (asked : Result Action Refusal) → Asks planned request asked
         → IfErr result (IsAnsweredBut (AnswersFor planned asked S.answers) (next_key planned)) }
+    ensures unbuilt { (asked : Result Action Refusal) → Asks planned request asked → MakesNoIndex asked
+        → IfErr result (IsAnswered (AnswersFor planned asked S.answers)) }
 {
     match request {
         Request::Create(def) => create(alloc, planned, number, def, store, meter),

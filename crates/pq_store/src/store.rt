@@ -84,7 +84,7 @@ impl From<NoMem> for StoreErr {
 /// in one round. A store tells its content or doesn't, and no call changes that. Its count of faults
 /// never falls.
 pub trait Store<L: Ledger> {
-    ghost use Rattle.std.specs.Prelude.{◌≡◌, ◌≤◌, ◌<◌, ◌*◌, ◌⊎◌, ℕ, List, Option, None, false, IfSome, IfOk, OnOk, IsErrOf, map, take, length, min, position, ⊤};
+    ghost use Rattle.std.specs.Prelude.{◌≡◌, ◌≤◌, ◌<◌, ◌+◌, ◌*◌, ◌⊎◌, ℕ, List, Option, None, false, IfSome, IfOk, OnOk, IsErrOf, map, take, length, min, position, ⊤};
     ghost use Rattle.std.specs.List.{AllByRecursion, AllZip, sum_by};
     ghost use Rattle.std.specs.Option.{option_map, option_copied};
     ghost use Rattle.std.specs.FinMap.{get as value_at};
@@ -97,6 +97,9 @@ pub trait Store<L: Ledger> {
 
     // How often it has failed, up to the last number of 64 bits.
     ghost faults: { Self → ℕ };
+
+    // How often it was asked, where it counts that: each of its calls raises it by one at most.
+    ghost rounds: { Self → ℕ } = { λ _. 0 };
 
     // What its calls may answer for a key: its value, or None where it has none and where a guarded write of it
     // isn't made. Whoever works over any store has of it only what its calls answered.
@@ -113,6 +116,7 @@ pub trait Store<L: Ledger> {
         ensures answered { IfOk result (λ found. answers key.now found) }
         ensures same { content self.new ≡ content self.old }
         ensures cause { HasCause (faults self.old) (faults self.new) result }
+        ensures round { rounds self.new ≤ rounds self.old + 1 }
         ensures meter { meter.new ≡ charged_counts meter.old (got_entries result) };
 
     /// The first `limit` pairs with `low <= key < high`, or all where there are fewer; as many
@@ -132,6 +136,7 @@ pub trait Store<L: Ledger> {
         ensures answered { IfOk result (λ found. AreAnswers answers found) }
         ensures same { content self.new ≡ content self.old }
         ensures cause { HasCause (faults self.old) (faults self.new) result }
+        ensures round { rounds self.new ≤ rounds self.old + 1 }
         ensures meter { meter.new ≡ charged_counts meter.old (ranged_entries result) };
 
     /// The lesser of `cap` and the number of pairs with `low <= key < high`; as many entries.
@@ -148,6 +153,7 @@ pub trait Store<L: Ledger> {
         ensures few { IfOk result (λ n. n ≤ cap) }
         ensures same { content self.new ≡ content self.old }
         ensures cause { HasCause (faults self.old) (faults self.new) result }
+        ensures round { rounds self.new ≤ rounds self.old + 1 }
         ensures meter { meter.new ≡ charged_counts meter.old (counted_entries result) };
 
     /// Where the guard holds, gives the key this value, or none, and answers true; else changes
@@ -170,6 +176,7 @@ pub trait Store<L: Ledger> {
             ⊎ (content self.new ≡ option_map (after_write guard.entry key.now (option_copied new.entry))
             (content self.old)) }
         ensures cause { HasCause (faults self.old) (faults self.new) result }
+        ensures round { rounds self.new ≤ rounds self.old + 1 }
         ensures meter { meter.new ≡ charged_counts meter.old 0 };
 
     /// The value of a key by a get; where none stands, nothing is asked.
@@ -241,6 +248,25 @@ pub trait Store<L: Ledger> {
         ensures answered { IfOk result (AllZip (IsValueAnswered answers) keys.now) }
         ensures same { content self.new ≡ content self.old }
         ensures cause { HasCause (faults self.old) (faults self.new) result }
+        ensures round { rounds self.new ≤ rounds self.old + 1 }
+        ensures paid { Pays allowance.old allowance.new meter.old meter.new (length keys.now) (length keys.now) }
+        ensures counted { IfOk result (λ found. meter.new ≡ raised_counts meter.old (sum_by one_if_some keys.now)
+            (sum_by one_if_some found)) };
+
+    /// The same by single calls.
+    fn gets_singly(
+        &mut self,
+        alloc: Global,
+        keys: &[Option<Bytes>],
+        allowance: &mut Allowance,
+        meter: &mut Meter<L>,
+    ) -> Result<List<Option<Bytes>>, StoreErr>
+        requires share { Affords allowance.old (length keys.now) (length keys.now) }
+        ensures long { IfOk result (λ found. length found ≡ length keys.now) }
+        ensures answer { IfOk result (AllZip (IsValueOf (content self.old)) keys.now) }
+        ensures answered { IfOk result (AllZip (IsValueAnswered answers) keys.now) }
+        ensures same { content self.new ≡ content self.old }
+        ensures cause { HasCause (faults self.old) (faults self.new) result }
         ensures paid { Pays allowance.old allowance.new meter.old meter.new (length keys.now) (length keys.now) }
         ensures counted { IfOk result (λ found. meter.new ≡ raised_counts meter.old (sum_by one_if_some keys.now)
             (sum_by one_if_some found)) }
@@ -256,6 +282,28 @@ pub trait Store<L: Ledger> {
     /// The first pairs of ranges, as a range of each with this limit would answer them one after the other. Where no
     /// ends stand, nothing is asked, and the answer has no pairs.
     fn ranges(
+        &mut self,
+        alloc: Global,
+        asks: &[Option<Ends>],
+        limit: u32,
+        allowance: &mut Allowance,
+        meter: &mut Meter<L>,
+    ) -> Result<List<List<Pair>>, StoreErr>
+        requires limit { 1 ≤ limit }
+        requires share { Affords allowance.old (length asks.now) (length asks.now * limit) }
+        ensures long { IfOk result (λ found. length found ≡ length asks.now) }
+        ensures answer { IfOk result (AllZip (ArePairsOf (content self.old) limit) asks.now) }
+        ensures parts { IfOk result (AllZip (IsPartAsked limit) asks.now) }
+        ensures answered { IfOk result (AllByRecursion (AreAnswers answers)) }
+        ensures same { content self.new ≡ content self.old }
+        ensures cause { HasCause (faults self.old) (faults self.new) result }
+        ensures round { rounds self.new ≤ rounds self.old + 1 }
+        ensures paid { Pays allowance.old allowance.new meter.old meter.new (length asks.now) (length asks.now * limit) }
+        ensures counted { IfOk result (λ found. meter.new ≡ raised_counts meter.old (sum_by one_if_some asks.now)
+            (sum_by length found)) };
+
+    /// The same by single calls.
+    fn ranges_singly(
         &mut self,
         alloc: Global,
         asks: &[Option<Ends>],
@@ -320,6 +368,23 @@ pub trait Store<L: Ledger> {
     /// The place of the first test that holds, as a get or a count for each would find it one after the other, up to
     /// that one: what is behind it is not asked, and nothing is spent for it.
     fn first_held(
+        &mut self,
+        alloc: Global,
+        tests: &[Test],
+        allowance: &mut Allowance,
+        meter: &mut Meter<L>,
+    ) -> Result<Option<usize>, StoreErr>
+        requires share { Affords allowance.old (length tests.now) (sum_by test_entries tests.now) }
+        ensures answer { IfOk result (λ at. IfSome (content self.old) (λ pairs. at ≡ position (is_held pairs) tests.now)) }
+        ensures within { IfOk result (λ at. IfSome at (λ i. i < length tests.now)) }
+        ensures same { content self.new ≡ content self.old }
+        ensures cause { HasCause (faults self.old) (faults self.new) result }
+        ensures round { rounds self.new ≤ rounds self.old + 1 }
+        ensures paid { Pays allowance.old allowance.new meter.old meter.new (length tests.now) (sum_by test_entries tests.now) }
+        ensures counted { IfOk result (AreTestsCounted (content self.old) meter.old meter.new tests.now) };
+
+    /// The same by single calls.
+    fn first_held_singly(
         &mut self,
         alloc: Global,
         tests: &[Test],

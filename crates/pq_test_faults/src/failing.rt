@@ -8,7 +8,7 @@ ghost use Rattle.pq_test_faults.specs.Faults.{fate, failing_after, listed_fail, 
 
 use pq_base::{Bytes, List};
 use pq_mem_store::MemStore;
-use pq_store::{Guard, Meter, Pair, Store, StoreErr};
+use pq_store::{Allowance, Ends, Guard, Meter, Pair, Store, StoreErr, Test};
 use std::alloc::Global;
 use std::marker::Model;
 use std::sync::ledger::Ledger;
@@ -199,5 +199,36 @@ impl<L: Ledger> Store<L> for FailingStore {
             },
             None => self.inner.write(alloc, key, guard, new, meter),
         }
+    }
+
+    fn gets(
+        &mut self,
+        alloc: Global,
+        keys: &[Option<Bytes>],
+        allowance: &mut Allowance,
+        meter: &mut Meter<L>,
+    ) -> Result<List<Option<Bytes>>, StoreErr> {
+        self.gets_singly(alloc, keys, allowance, meter)
+    }
+
+    fn ranges(
+        &mut self,
+        alloc: Global,
+        asks: &[Option<Ends>],
+        limit: u32,
+        allowance: &mut Allowance,
+        meter: &mut Meter<L>,
+    ) -> Result<List<List<Pair>>, StoreErr> {
+        self.ranges_singly(alloc, asks, limit, allowance, meter)
+    }
+
+    fn first_held(
+        &mut self,
+        alloc: Global,
+        tests: &[Test],
+        allowance: &mut Allowance,
+        meter: &mut Meter<L>,
+    ) -> Result<Option<usize>, StoreErr> {
+        self.first_held_singly(alloc, tests, allowance, meter)
     }
 }

@@ -18,7 +18,7 @@ use Rattle.pq_index_keep.specs.declared.plan.Planned.{Planned}
 use Rattle.pq_index_keep.specs.declared.write.Write.{Write}
 use Rattle.pq_tallies.specs.Counters.{HoldsCounted}
 use Rattle.pq_counters.specs.Bounds.{whole_bound}
-use Rattle.pq_counters.specs.Whole.{PlansWhole, reads_behind, whole_reads}
+use Rattle.pq_counters.specs.Whole.{ChangesWhole, PlansWhole, reads_behind, whole_reads, whole_rounds}
 
 module _ (ahead : Ahead) (none : ahead ≡ nothing_ahead) where
   pub few_ahead : ahead.removers ≤ 256
@@ -37,6 +37,9 @@ module _ (ahead : Ahead) (none : ahead ≡ nothing_ahead) where
     pub alone_share : (allowed : AllowedCounts) → Affords allowed (whole_bound schema write).ops (whole_bound schema write).entries
         → Affords allowed (reads_behind ahead.removers schema write).ops (reads_behind ahead.removers schema write).entries
     alone_share allowed share = record { ops_left = omega (arith, share.ops_left); entries_left = omega (arith, share.entries_left, alone_bound) }
+
+    pub alone_asks : (before after : ℕ) → after ≤ before + whole_rounds ahead.changes schema write → after ≤ before + whole_rounds [] schema write
+    alone_asks before after few = subst (λ (cs : List Change). after ≤ before + whole_rounds cs schema write) changes_none few
 
     pub alone_reads : (old now : Option Content) (f0 f1 : ℕ) (given left : AllowedCounts) (before after : Counts)
         → Reads (world (seen_content ahead.changes old) f0 given before) (world (seen_content ahead.changes now) f1 left after) (reads_behind ahead.removers schema write).ops (reads_behind ahead.removers schema write).entries
@@ -57,6 +60,9 @@ module _ (ahead : Ahead) (none : ahead ≡ nothing_ahead) where
         → IfOk result (λ planned. (rows : Rows) (others : List Pair) → HoldsCounted (seen_content ahead.changes old) schema rows others → PlansWhole schema rows others write planned)
         → IfOk result (λ planned. (rows : Rows) (others : List Pair) → HoldsCounted old schema rows others → PlansWhole schema rows others write planned)
     alone_answer old result answer = subst (λ (o : Option Content). IfOk result (λ planned. (rows : Rows) (others : List Pair) → HoldsCounted o schema rows others → PlansWhole schema rows others write planned)) (seen old) answer
+
+    pub alone_own : (old : Option Content) (result : Result Planned Broke) → IfOk result (ChangesWhole schema (seen_content ahead.changes old) write) → IfOk result (ChangesWhole schema old write)
+    alone_own old result own = subst (λ (o : Option Content). IfOk result (ChangesWhole schema o write)) (seen old) own
 
   pub alone_undamaged : (schema : Schema) (old : Option Content) (result : Result Planned Broke)
       → IfErr result (λ error. (rows : Rows) (others : List Pair) → HoldsCounted (seen_content ahead.changes old) schema rows others → IsUndamaged error)

@@ -4,7 +4,7 @@ use Rattle.std.specs.Prelude.{MatchResult, IfSome}
 use Rattle.pq_base.specs.declared.number.Bound.{Bound}
 use Rattle.pq_base.specs.declared.refusal.Refusal.{Refusal}
 use Rattle.pq_batch.specs.Batches.{Unmade, InBatch, TooLong, batch_bound, batch_effect}
-use Rattle.pq_batch.specs.Promises.{AnswersBehind, MakesBatch, PlansBatch, RefusesBatch, ShowsBehind}
+use Rattle.pq_batch.specs.Promises.{AnswersBehind, ChangesBehind, MakesBatch, PlansBatch, RefusesBatch, ShowsBehind}
 use Rattle.pq_batch.specs.declared.plan.PlannedBatch.{PlannedBatch}
 use Rattle.pq_batch.specs.declared.plan.PlannedBatch.TheVariants as planned
 use Rattle.pq_row_code.specs.declared.changes.Change.{Change}
@@ -26,6 +26,7 @@ use Rattle.pq_nodes.specs.Operators.{no_row}
 use Rattle.pq_catalog.specs.Model.{Model}
 use Rattle.pq_statement.specs.Actions.{Batches}
 use Rattle.pq_reports.specs.Evidence.{AnswersFor, IsEvidence, TellsEvidenceFor}
+use Rattle.pq_reports.specs.Making.{AreBatchedIn}
 use Rattle.pq_reports.specs.Promise.{LacksMemory}
 use Rattle.pq_reports.specs.Refusing.{CanEnd}
 use Rattle.pq_reports.specs.Step.{action_step, batch_step, batched_as, report_of, report_step, unmade_end}
@@ -42,13 +43,17 @@ batch_lacks writes old now broke.NoMem lacks = lacks refl
 batch_lacks writes old now (broke.Damaged damage) lacks = tt
 
 module _ (number : ℕ) (writes : List Write) (schema : Schema) (most : Bound) (is_most : most ≡ batch_bound schema writes) where
-  pub batch_is_change : IsChange schema (Batches writes) most
+  pub batch_is_change : IsChange schema (Batches writes) most (AreBatchedIn schema writes)
   batch_is_change = record {
     bound = ap (λ (b : Bound). Some b) (sym is_most);
     same = refl;
     writes = λ none. none;
     unread = λ n report. tt;
     lacks = batch_lacks writes;
+    leaves = λ content now stops. stops;
+    makes = λ content now report made. made;
+    kind = λ report lines. lines;
+    rows = λ content before after. tt;
   }
 
   batched : (m : Model) → schema ≡ m.schema → (made : Result Rows Unmade) → batch_effect schema m.rows writes ≡ made → action_step m number (Batches writes) ≡ batched_as m number most made
@@ -56,6 +61,11 @@ module _ (number : ℕ) (writes : List Write) (schema : Schema) (most : Bound) (
   batched m known made is =
       ap (λ (b : Bound). batched_as m number b (batch_effect m.schema m.rows writes)) (ap (λ (x : Schema). batch_bound x writes) (sym known) ∙ sym is_most)
       ∙ ap (batched_as m number most) (ap (λ (x : Schema). batch_effect x m.rows writes) (sym known) ∙ is)
+
+  -- what is planned over a content that is told
+  pub batch_planned : (changes : List Change) (old : Option Content) (q : PlannedBatch) → q ≡ planned.Changes changes → ChangesBehind schema old writes [] q → IfSome old (λ content. AreBatchedIn schema writes content changes)
+  batch_planned changes None q is own = tt
+  batch_planned changes (Some content) q is own = subst (ChangesBehind schema (Some content) writes []) is own
 
   -- refused, over a model: a write is, or the changes are too long
   pub batch_refused : (place : ℕ) (cause : Refusal) (old : Option Content) (q : PlannedBatch) → q ≡ planned.Refused place cause → Planning old schema writes q

@@ -17,7 +17,7 @@ use Rattle.pq_store.specs.Counts.{Counts, AllowedCounts, granted_counts, used_of
 use Rattle.pq_store.specs.declared.damage.Broke.{Broke}
 use Rattle.pq_store.specs.declared.damage.Broke.TheVariants as broke
 use Rattle.pq_store.specs.Breaks.{IfDamaged, IsPresent, IsUndamaged}
-use Rattle.pq_intent.specs.Changing.{IfDamagedSame, WantsMemory, intent_writes}
+use Rattle.pq_intent.specs.Changing.{IfDamagedSame, IsPartway, WantsMemory, commit_writes, intent_writes}
 use Rattle.pq_intent.specs.Settling.{IsSettled, Settles, HasIntent}
 use Rattle.pq_intent.specs.Spending.{TakesAtMost, Spends}
 use Rattle.pq_key_code.specs.KeyCode.{intent_key}
@@ -26,14 +26,16 @@ use Rattle.pq_tallies.specs.Counters.{AreFewRows, all_pairs}
 use Rattle.pq_tallies.specs.Defined.{counters_in}
 use Rattle.pq_statement.specs.Actions.{Action, action_bound, action_schema}
 use Rattle.pq_reports.specs.Evidence.{TellsEvidence, TellsEvidenceFor}
+use Rattle.pq_reports.specs.Making.{IsWithinAsked, LeavesAction, MakesAction, MakesChanges, StopsWriting}
 use Rattle.pq_reports.specs.Matches.{Matches}
 use Rattle.pq_reports.specs.Promise.{DoneStatement, BrokenStatement, IsBound, IsRefusal, IsWithinFixed, KeepsDamaged, LacksMemory, OnlyReads}
 use Rattle.pq_reports.specs.Refusing.{CanEnd, IsUnread}
+use Rattle.pq_reports.specs.Telling.{TellsAction, TellsLines}
 use Rattle.pq_reports.specs.Step.{Step, action_step, report_of, report_step}
 use Rattle.pq_catalog.specs.Model.{Model}
 use Rattle.pq_catalog.specs.Stands.{Stands, Opens, content_of, catalog_pairs}
 use Rattle.pq_catalog.proofs.Standing.{no_intent_in, settled_opens}
-use Rattle.pq_reports.proofs.Promises.{broken_kept, damaged_kept, shown_for, still_for, within_step}
+use Rattle.pq_reports.proofs.Promises.{broken_kept, damaged_kept, of_each, shown_for, still_for, within_step}
 use Rattle.pq_write.proofs.Unmade.{wants_unmade}
 
 -- ---- the operations of a commit
@@ -62,13 +64,18 @@ with_rows m rows = record m { rows = rows }
 
 -- ---- the statement
 
--- it has this bound, leaves the definitions, may write, and isn't made where memory was wanting
-pub record IsChange (schema : Schema) (action : Action) (most : Bound) : Type 0 where
+-- it has this bound, leaves the definitions, may write, isn't made where memory was wanting, and makes of a content
+-- just what is planned for it
+pub record IsChange (schema : Schema) (action : Action) (most : Bound) (planned : Content → List Coded → Type 0) : Type 0 where
   pub bound : action_bound schema action ≡ Some most
   pub same : action_schema schema action ≡ schema
   pub writes : OnlyReads (Ok action) → ⊥
   pub unread : (number : ℕ) (report : Report) → IsUnread number (Ok action) report
   pub lacks : (old now : Option Content) (error : Broke) → (error ≡ broke.NoMem → (now ≡ old) ⊎ HasIntent now) → LacksMemory (Ok action) old now error
+  pub leaves : (content : Content) (now : Option Content) → StopsWriting (planned content) content now → LeavesAction schema action content now
+  pub makes : (content : Content) (now : Option Content) (report : Report) → MakesChanges (planned content) content now → MakesAction schema action content now report
+  pub kind : (report : Report) → TellsLines [] report → TellsAction schema action report
+  pub rows : (content : Content) (before after : Counts) → IsWithinAsked (Ok action) content before after
 
 -- over the rows of a model the changes make these rows, and its step does
 pub record MakesStep (number : ℕ) (action : Action) (schema : Schema) (most : Bound) (changes : List Coded) (m : Model) : Type 0 where
@@ -78,7 +85,7 @@ pub record MakesStep (number : ℕ) (action : Action) (schema : Schema) (most : 
   pub few : AreFewRows (counters_in schema) made
   pub step : action_step m number action ≡ record { model = with_rows m made; report = report_of number [] end.Done most }
 
-module _ (number : ℕ) (action : Action) (schema : Schema) (most : Bound) (is : IsChange schema action most) where
+module _ (number : ℕ) (action : Action) (schema : Schema) (most : Bound) (planned : Content → List Coded → Type 0) (is : IsChange schema action most planned) where
   fixed : (before after : Counts) → TakesAtMost most before after → IsWithinFixed (action_bound schema action) before after
   fixed before after within = subst (λ (o : Option Bound). IsWithinFixed o before after) (sym is.bound) within
 
@@ -86,9 +93,9 @@ module _ (number : ℕ) (action : Action) (schema : Schema) (most : Bound) (is :
 
   pub refused_done : (ending : End) (old now : Option Content) (f0 f1 : ℕ) (given allowed : AllowedCounts) (before after : Counts) (ops entries : ℕ) → given ≡ granted_counts most.ops most.entries
       → Reads (world old f0 given before) (world now f1 allowed after) ops entries
-      → ((m : Model) → Stands old schema m → action_step m number action ≡ report_step m (report_of number [] ending most)) → CanEnd schema (Ok action) ending
+      → ((m : Model) → Stands old schema m → action_step m number action ≡ report_step m (report_of number [] ending most)) → CanEnd schema (Ok action) ending → IsRefusal ending
       → DoneStatement number (Ok action) old now schema schema before after (record (report_of number [] ending most) { used = used_of allowed })
-  refused_done ending old now f0 f1 given allowed before after ops entries is_given reads step can =
+  refused_done ending old now f0 f1 given allowed before after ops entries is_given reads step can refusal =
       let given_ops = ap (λ (a : AllowedCounts). a.granted.ops) is_given in
       let given_entries = ap (λ (a : AllowedCounts). a.granted.entries) is_given in
       let left_ops = ap (λ (a : AllowedCounts). a.left.ops) is_given in
@@ -110,6 +117,9 @@ module _ (number : ℕ) (action : Action) (schema : Schema) (most : Bound) (is :
         unread = is.unread number _;
         can = can;
         reads = λ none. absurd (is.writes none);
+        tells = λ not. absurd (not refusal);
+        kind = λ not. absurd (not refusal);
+        bare = λ _. refl;
       }
 
   -- ---- made
@@ -126,12 +136,20 @@ module _ (number : ℕ) (action : Action) (schema : Schema) (most : Bound) (is :
     few_made : AreFewRows (counters_in m.schema) p.made
     few_made = subst (λ (x : Schema). AreFewRows (counters_in x) p.made) known p.few
 
+  -- the changes that were planned are those that were made
+  made_told : (changes : List Coded) (old mid now : Option Content) (report : Report) → mid ≡ old → IfSome mid (λ pairs. now ≡ Some (changed_content (map change_of changes) pairs)) → IfSome old (λ content. planned content changes)
+      → IfSome old (λ content. MakesAction schema action content now report)
+  made_told changes None mid now report same whole plan = tt
+  made_told changes (Some content) mid now report same whole plan =
+      is.makes content now report (record { coded = changes; plan = plan; is = subst (λ (o : Option Content). IfSome o (λ pairs. now ≡ Some (changed_content (map change_of changes) pairs))) same whole })
+
   pub made_done : (changes : List Coded) (old mid now : Option Content) (f0 f1 : ℕ) (given left allowed : AllowedCounts) (before between after : Counts) (ops entries limit : ℕ) → given ≡ granted_counts most.ops most.entries
       → Reads (world old f0 given before) (world mid f1 left between) ops entries
       → ((m : Model) → Stands old schema m → MakesStep number action schema most changes m)
       → ((pairs : Content) → IsSettled mid pairs → now ≡ Some (changed_content (map change_of changes) pairs)) → Spends limit left allowed between after
+      → IfSome mid (λ pairs. now ≡ Some (changed_content (map change_of changes) pairs)) → IfSome old (λ content. planned content changes)
       → DoneStatement number (Ok action) old now schema schema before after (record (report_of number [] end.Done most) { used = used_of allowed })
-  made_done changes old mid now f0 f1 given left allowed before between after ops entries limit is_given reads makes commits spends =
+  made_done changes old mid now f0 f1 given left allowed before between after ops entries limit is_given reads makes commits spends whole plan =
       let given_ops = ap (λ (a : AllowedCounts). a.granted.ops) is_given in
       let given_entries = ap (λ (a : AllowedCounts). a.granted.entries) is_given in
       let given_left = ap (λ (a : AllowedCounts). a.left.ops) is_given in
@@ -163,6 +181,9 @@ module _ (number : ℕ) (action : Action) (schema : Schema) (most : Bound) (is :
         unread = is.unread number _;
         can = tt;
         reads = λ none. absurd (is.writes none);
+        tells = λ _. made_told changes old mid now (record (report_of number [] end.Done most) { used = used_of allowed }) reads.same whole plan;
+        kind = λ _. is.kind (record (report_of number [] end.Done most) { used = used_of allowed }) (refl, refl);
+        bare = λ refusal. absurd refusal;
       }
 
   -- ---- broken off
@@ -187,7 +208,14 @@ module _ (number : ℕ) (action : Action) (schema : Schema) (most : Bound) (is :
       → ((m : Model) → Stands old schema m → IsUndamaged error) → BrokenStatement number (Ok action) old now schema before after error
   planning_broke error old now f0 f1 given left before after ops entries is_given reads shown sound =
       let within = planned_within old now f0 f1 given left before after ops entries is_given reads in
-      broken_kept number (Ok action) old now schema before after error reads.same sound (fixed before after within) (within_step number action old schema most before after is.bound within) shown
+      broken_kept number (Ok action) old now schema before after error reads.same sound (fixed before after within) (within_step number action old schema most before after is.bound within)
+      (of_each old (λ content. IsWithinAsked (Ok action) content before after) (λ content. is.rows content before after)) shown
+
+  -- the writes that were made are the first ones of what was planned
+  begun_told : (changes : List Coded) (old mid now : Option Content) → mid ≡ old → IsPartway (commit_writes changes) mid now → IfSome old (λ content. planned content changes) → IfSome old (λ content. LeavesAction schema action content now)
+  begun_told changes None mid now same partway plan = tt
+  begun_told changes (Some content) mid now same partway plan =
+      is.leaves content now (inr (record { coded = changes; plan = plan; partway = subst (λ (o : Option Content). IsPartway (commit_writes changes) o now) same partway }))
 
   opens_at : (changes : List Coded) (m : Model) (now : Option Content) (old : Option Content) → Stands old schema m → MakesStep number action schema most changes m
       → Settles now (content_of m) ⊎ Settles now (changed_content (map change_of changes) (content_of m)) → Opens now m ⊎ Opens now (action_step m number action).model
@@ -217,8 +245,9 @@ module _ (number : ℕ) (action : Action) (schema : Schema) (most : Bound) (is :
       → ((pairs : Content) → IsSettled mid pairs → IsUndamaged error) → IfSome mid (λ pairs. IfDamaged (IsPresent intent_key pairs) error)
       → IfDamagedSame mid now error → (error ≡ broke.NoMem → (pairs : Content) → IsSettled mid pairs → WantsMemory (intent_writes changes) between after mid now)
       → AreIntended (map change_of changes) → after.ops ≤ between.ops + write_ops (length changes)
+      → IsPartway (commit_writes changes) mid now → IfSome old (λ content. planned content changes)
       → BrokenStatement number (Ok action) old now schema before after error
-  commit_broke changes error old mid now f0 f1 given left allowed before between after ops entries limit is_given reads spends makes stops sound shows same wants intended few =
+  commit_broke changes error old mid now f0 f1 given left allowed before between after ops entries limit is_given reads spends makes stops sound shows same wants intended few partway plan =
       let within = committed_within old mid f0 f1 given left allowed before between after ops entries limit is_given reads spends in
       let shown = shown_for (Ok action) mid schema error (intent_shown mid error shows) in
       record {
@@ -227,6 +256,8 @@ module _ (number : ℕ) (action : Action) (schema : Schema) (most : Bound) (is :
         within = fixed before after within;
         within_own = within_step number action old schema most before after is.bound within;
         kept = subst (λ (o : Option Content). KeepsDamaged schema (Ok action) o now error) reads.same (damaged_kept schema (Ok action) mid now error same);
+        left = begun_told changes old mid now reads.same partway plan;
+        within_rows = of_each old (λ content. IsWithinAsked (Ok action) content before after) (λ content. is.rows content before after);
         memory = λ m s. is.lacks old now error (wants_unmade changes error old mid now between after reads.same (content_of m) (settled_for old mid schema m reads.same s) wants intended few);
         reads = λ none. absurd (is.writes none);
         shown = subst (λ (o : Option Content). IfSome o (λ content. TellsEvidenceFor (Ok action) schema content error)) reads.same shown;

@@ -1,6 +1,7 @@
 -- What a READ makes of what a content stands for.
 use Rattle.std.proofs.Common.{◌≡◌, ℕ, List, [], ◌∷◌, map, Option, Some, None, Ok, refl, sym, ap, ◌∙◌, subst, inl, inr, arith}
-use Rattle.std.specs.Prelude.{IfSome}
+use Rattle.std.specs.Prelude.{◌≤◌, IfSome}
+use Rattle.std.specs.FinMap.{get}
 use Rattle.pq_base.specs.declared.value.ColType.{ColType}
 use Rattle.pq_base.specs.declared.value.Value.{Value}
 use Rattle.pq_base.specs.Values.{AllFit}
@@ -9,7 +10,7 @@ use Rattle.pq_calls.specs.World as calls
 use Rattle.pq_calls.specs.World.{world, Explains, where_told}
 use Rattle.pq_content.specs.Pairs.{Pair}
 use Rattle.pq_content.specs.Tables.{AllOfKinds, Rows}
-use Rattle.pq_counters.specs.Evidence.{IsNoCount}
+use Rattle.pq_counters.specs.Evidence.{IsCounted, IsNoCount}
 use Rattle.pq_intent.specs.Spending.{TakesAtMost}
 use Rattle.pq_print.specs.declared.report.End.TheVariants as end
 use Rattle.pq_schema.specs.Resolved.{param_type}
@@ -22,10 +23,11 @@ use Rattle.pq_store.specs.Content.{Content}
 use Rattle.pq_store.specs.Counts.{Counts, AllowedCounts, granted_counts, used_of}
 use Rattle.pq_store.specs.declared.damage.Broke.{Broke}
 use Rattle.pq_store.specs.declared.damage.Broke.TheVariants as broke
-use Rattle.pq_tallies.specs.Counters.{HoldsCounted, tally}
+use Rattle.pq_tallies.specs.Counters.{HoldsCounted, counter_key, most_count, tally}
 use Rattle.pq_tallies.specs.Defined.{counter_numbered}
 use Rattle.pq_tallies.proofs.Defined.{numbered_in}
 use Rattle.pq_reports.specs.Evidence.{TellsEvidence}
+use Rattle.pq_reports.specs.Making.{IsWithinAsked, MakesAction}
 use Rattle.pq_reports.specs.Matches.{Matches}
 use Rattle.pq_catalog.specs.Model.{Model}
 use Rattle.pq_reports.specs.Promise.{BrokenStatement, DoneStatement}
@@ -33,7 +35,7 @@ use Rattle.pq_reports.specs.Reports.{count_report}
 use Rattle.pq_catalog.specs.Stands.{Stands, catalog_pairs}
 use Rattle.pq_reports.specs.Step.{Step, count_line, read_step, report_of, report_step}
 use Rattle.pq_catalog.proofs.Counted.{settled_counted}
-use Rattle.pq_reports.proofs.Promises.{broken_kept, sound_shown, within_step}
+use Rattle.pq_reports.proofs.Promises.{broken_kept, of_each, of_told, sound_shown, within_step}
 
 -- values that fit parameters for columns are of the columns' kinds
 pub kinds_from_params : (types : List ColType) (values : List Value) → AllFit (map param_type types) values → AllOfKinds types values
@@ -55,9 +57,10 @@ module _ (number : ℕ) (reading : Reading) (schema : Schema) where
       (ap (λ (x : Schema). tally m.rows (counter_numbered x reading.number) reading.values) (sym known) ∙ sym is)
 
   pub read_done : (old now : Option Content) (f0 f1 : ℕ) (given allowed : AllowedCounts) (before after : Counts) (n : ℕ) → given ≡ granted_counts 1 1
-      → calls.Reads (world old f0 given before) (world now f1 allowed after) 1 1 → IsTally old n
+      → calls.Reads (world old f0 given before) (world now f1 allowed after) 1 1 → IsTally old n → n ≤ most_count
+      → IfSome old (λ content. IsCounted (get content (counter_key reading.number reading.values)) n)
       → DoneStatement number (Ok (action.Reads reading)) old now schema schema before after (count_report number n (used_of allowed))
-  read_done old now f0 f1 given allowed before after n is reads answer =
+  read_done old now f0 f1 given allowed before after n is reads answer few stored =
       let given_ops = ap (λ (a : AllowedCounts). a.granted.ops) is in
       let given_entries = ap (λ (a : AllowedCounts). a.granted.entries) is in
       let left_ops = ap (λ (a : AllowedCounts). a.left.ops) is in
@@ -81,7 +84,14 @@ module _ (number : ℕ) (reading : Reading) (schema : Schema) where
         unread = tt;
         can = tt;
         reads = λ _. reads.same;
+        tells = λ _. of_told old (λ content. IsCounted (get content (counter_key reading.number reading.values)) n) (λ content. MakesAction schema (action.Reads reading) content now (count_report number n (used_of allowed)))
+            (λ content counted. record { n = n; counted = counted; lines = refl; end_is = refl }) stored;
+        kind = λ _. record { n = n; few = few; lines = refl; end_is = refl };
+        bare = λ refusal. absurd refusal;
       }
+
+  no_rows : (old : Option Content) (before after : Counts) → IfSome old (λ content. IsWithinAsked (Ok (action.Reads reading)) content before after)
+  no_rows old before after = of_each old (λ content. IsWithinAsked (Ok (action.Reads reading)) content before after) (λ content. tt)
 
   within_read : (old now : Option Content) (f0 f1 : ℕ) (given allowed : AllowedCounts) (before after : Counts) → calls.Reads (world old f0 given before) (world now f1 allowed after) 1 1 → TakesAtMost (bound 1 1) before after
   within_read old now f0 f1 given allowed before after reads = record { ops = reads.few_ops; entries = reads.few_entries }
@@ -104,7 +114,7 @@ module _ (number : ℕ) (reading : Reading) (schema : Schema) where
       let within = within_read old now f0 f1 given allowed before after reads in
       broken_kept number (Ok (action.Reads reading)) old now schema before after error reads.same
       (λ m s. sound m.rows (catalog_pairs schema) (settled_counted old schema m s)) within
-      (within_step number (action.Reads reading) old schema (bound 1 1) before after refl within)
+      (within_step number (action.Reads reading) old schema (bound 1 1) before after refl within) (no_rows old before after)
       (count_shown old now f0 f1 given allowed before after error is explains)
 
   -- want of memory behind the read
@@ -113,4 +123,4 @@ module _ (number : ℕ) (reading : Reading) (schema : Schema) where
   read_lost old now f0 f1 given allowed before after reads =
       let within = within_read old now f0 f1 given allowed before after reads in
       broken_kept number (Ok (action.Reads reading)) old now schema before after broke.NoMem reads.same (λ m s. tt) within
-      (within_step number (action.Reads reading) old schema (bound 1 1) before after refl within) (sound_shown old schema broke.NoMem tt)
+      (within_step number (action.Reads reading) old schema (bound 1 1) before after refl within) (no_rows old before after) (sound_shown old schema broke.NoMem tt)

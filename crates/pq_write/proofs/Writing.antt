@@ -21,7 +21,7 @@ use Rattle.pq_tallies.specs.Counters.{HoldsCounted}
 use Rattle.pq_tallies.specs.Writes.{counted_effect}
 use Rattle.pq_counters.specs.Bounds.{whole_bound}
 use Rattle.pq_counters.specs.Evidence.{ShowsCounted}
-use Rattle.pq_counters.specs.Whole.{MakesWhole, PlansWhole}
+use Rattle.pq_counters.specs.Whole.{ChangesWhole, HasWhole, MakesWhole, PlansWhole}
 use Rattle.pq_calls.specs.World.{world, Explains, Reads, where_told}
 use Rattle.pq_nodes.specs.Operators.{no_row}
 use Rattle.pq_catalog.specs.Model.{Model}
@@ -52,13 +52,17 @@ write_lacks write old now broke.NoMem lacks = lacks refl
 write_lacks write old now (broke.Damaged damage) lacks = tt
 
 module _ (number : ℕ) (write : Write) (schema : Schema) (most : Bound) (is_most : most ≡ whole_bound schema write) where
-  pub write_is_change : IsChange schema (Writes write) most
+  pub write_is_change : IsChange schema (Writes write) most (λ content. HasWhole schema (Some content) write)
   write_is_change = record {
     bound = ap (λ (b : Bound). Some b) (sym is_most);
     same = refl;
     writes = λ none. none;
     unread = λ n report. tt;
     lacks = write_lacks write;
+    leaves = λ content now stops. stops;
+    makes = λ content now report made. made;
+    kind = λ report lines. lines;
+    rows = λ content before after. tt;
   }
 
   effected : (m : Model) → schema ≡ m.schema → (made : Result Rows Refusal) → counted_effect schema m.rows write ≡ made → action_step m number (Writes write) ≡ effected_as m number most made
@@ -66,6 +70,11 @@ module _ (number : ℕ) (write : Write) (schema : Schema) (most : Bound) (is_mos
   effected m known made is =
       ap (λ (b : Bound). effected_as m number b (counted_effect m.schema m.rows write)) (ap (λ (x : Schema). whole_bound x write) (sym known) ∙ sym is_most)
       ∙ ap (effected_as m number most) (ap (λ (x : Schema). counted_effect x m.rows write) (sym known) ∙ is)
+
+  -- what is planned over a content that is told
+  pub write_planned : (changes : List Change) (old : Option Content) (q : Planned) → q ≡ planned.Changes changes → ChangesWhole schema old write q → IfSome old (λ content. HasWhole schema (Some content) write changes)
+  write_planned changes None q is own = tt
+  write_planned changes (Some content) q is own = subst (ChangesWhole schema (Some content) write) is own
 
   -- refused, over a model
   pub write_refused : (why : Refusal) (old : Option Content) (q : Planned) → q ≡ planned.Refused why → Planning old schema write q

@@ -1,6 +1,8 @@
 //! BATCH.
-ghost use Rattle.std.specs.Prelude.{IfErr, Ok};
+ghost use Rattle.std.specs.Prelude.{◌≤◌, ◌+◌, IfErr, Ok};
+ghost use Rattle.pq_batch.specs.Batches.{batch_changes, batch_rounds};
 ghost use Rattle.pq_batch.specs.Promises.{IsBatch};
+ghost use Rattle.pq_content.specs.Standing.{write_ops};
 ghost use Rattle.pq_store.specs.Breaks.{IsAnswered};
 ghost use Rattle.pq_store.specs.Content.{HasBrokeCause};
 ghost use Rattle.pq_statement.specs.Actions.{Batches};
@@ -30,6 +32,8 @@ pub fn make_batch<S: Store<L>, L: Ledger>(
     requires { IsBatch planned writes.now }
     ensures step { Promises number (Ok (Batches writes.now)) (S.content store.old) (S.content store.new) planned
         meter.old meter.new result }
+    ensures rounds { S.rounds store.new ≤ S.rounds store.old
+        + (batch_rounds planned writes.now + write_ops (batch_changes planned writes.now)) }
     ensures cause { HasBrokeCause (S.faults store.old) (S.faults store.new) result }
     ensures answered { IfErr result (IsAnswered (AnswersFor planned (Ok (Batches writes.now)) S.answers)) }
 {

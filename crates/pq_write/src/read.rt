@@ -1,5 +1,5 @@
 //! READ: how many rows a group of a counter has.
-ghost use Rattle.std.specs.Prelude.{◌≡◌, ◌≤◌, IfErr, IfOk, Ok};
+ghost use Rattle.std.specs.Prelude.{◌≡◌, ◌≤◌, ◌+◌, IfErr, IfOk, Ok};
 ghost use Rattle.pq_store.specs.Breaks.{IsAnswered};
 ghost use Rattle.pq_store.specs.Content.{HasBrokeCause};
 ghost use Rattle.pq_statement.specs.Actions.{Reads};
@@ -52,6 +52,7 @@ pub fn read_count<S: Store<L>, L: Ledger>(
     requires { IsReading planned (reading_asked read.now) }
     ensures step { Promises number (Ok (Reads (reading_asked read.now))) (S.content store.old)
         (S.content store.new) planned meter.old meter.new result }
+    ensures rounds { S.rounds store.new ≤ S.rounds store.old + 1 }
     ensures cause { HasBrokeCause (S.faults store.old) (S.faults store.new) result }
     ensures answered { IfErr result (IsAnswered S.answers) }
 {

@@ -1,11 +1,12 @@
 //! INSERT, UPDATE and DELETE.
-ghost use Rattle.std.specs.Prelude.{List, IfOk, IfErr, Ok};
+ghost use Rattle.std.specs.Prelude.{◌≤◌, ◌+◌, [], List, IfOk, IfErr, Ok};
 ghost use Rattle.pq_calls.specs.World.{world, Affords, Reads, Explains, where_told};
 ghost use Rattle.pq_content.specs.Pairs.{Pair};
 ghost use Rattle.pq_content.specs.Tables.{Rows};
+ghost use Rattle.pq_content.specs.Standing.{write_ops};
 ghost use Rattle.pq_counters.specs.Bounds.{whole_bound, whole_ops};
 ghost use Rattle.pq_counters.specs.Evidence.{ShowsCounted};
-ghost use Rattle.pq_counters.specs.Whole.{whole_reads, whole_changes, IsWholeWithin, RefusesWhole, PlansWhole};
+ghost use Rattle.pq_counters.specs.Whole.{whole_reads, whole_changes, whole_rounds, IsWholeWithin, ChangesWhole, RefusesWhole, PlansWhole};
 ghost use Rattle.pq_tallies.specs.Counters.{HoldsCounted};
 ghost use Rattle.pq_store.specs.Breaks.{IsAnswered, IsUndamaged};
 ghost use Rattle.pq_store.specs.Content.{HasBrokeCause};
@@ -41,6 +42,7 @@ fn plan_alone<S: Store<L>, L: Ledger>(
     ensures reads { Reads (world (S.content store.old) (S.faults store.old) allowance.old meter.old)
         (world (S.content store.new) (S.faults store.new) allowance.new meter.new)
         (whole_reads catalog.now write.now).ops (whole_reads catalog.now write.now).entries }
+    ensures rounds { S.rounds store.new ≤ S.rounds store.old + whole_rounds [] catalog.now write.now }
     ensures left { Affords allowance.new (whole_ops catalog.now write.now) 0 }
     ensures cause { IfErr result (Explains (where_told (ShowsCounted catalog.now))
         (world (S.content store.old) (S.faults store.old) allowance.old meter.old)
@@ -49,6 +51,7 @@ fn plan_alone<S: Store<L>, L: Ledger>(
     ensures undamaged { IfErr result (λ error. (rows : Rows) (others : List Pair)
         → HoldsCounted (S.content store.old) catalog.now rows others → IsUndamaged error) }
     ensures plan { IfOk result (IsWholeWithin (whole_changes catalog.now write.now)) }
+    ensures own { IfOk result (ChangesWhole catalog.now (S.content store.old) write.now) }
     ensures can { IfOk result (RefusesWhole catalog.now write.now) }
     ensures answer { IfOk result (λ planned. (rows : Rows) (others : List Pair)
         → HoldsCounted (S.content store.old) catalog.now rows others
@@ -70,6 +73,8 @@ pub fn make_write<S: Store<L>, L: Ledger>(
     requires { IsWrite planned.tables write.now }
     ensures step { Promises number (Ok (Writes write.now)) (S.content store.old) (S.content store.new) planned
         meter.old meter.new result }
+    ensures rounds { S.rounds store.new ≤ S.rounds store.old
+        + (whole_rounds [] planned write.now + write_ops (whole_changes planned write.now)) }
     ensures cause { HasBrokeCause (S.faults store.old) (S.faults store.new) result }
     ensures answered { IfErr result (IsAnswered S.answers) }
 {

@@ -15,7 +15,8 @@ use Rattle.pq_counters.specs.Evidence.{ShowsCounted}
 use Rattle.pq_counters.specs.Whole.{AreWhole, HasWhole, ChangesWhole, IsWholeWithin, PlansWhole, RefusesWhole, whole_changes}
 use Rattle.pq_batch.specs.From.{ShowsFrom}
 use Rattle.pq_batch.proofs.Nexts.{HasNext, has_next, later_some, later_few, later_ahead, refused_first, plans_first, plans_last, within_more, refuses_first, refuses_later}
-use Rattle.pq_batch.proofs.Shown.{cause_here, answered_here, causes_later, answers_later}
+use Rattle.pq_batch.proofs.Rounds.{write_behind, rounds_first}
+use Rattle.pq_batch.proofs.Shown.{cause_here, answered_here, behind_last, behind_later, causes_later, answers_later}
 use Rattle.pq_batch.proofs.Worlds.{causes_before, cut_first, cut_none, each_rest, changes_cut, first_share, rest_share, uses_first, uses_both}
 use Rattle.pq_batch.proofs.plan.+plan_from.Goals as goal
 
@@ -23,6 +24,11 @@ pub returns-in_default-clause-answer : goal.returns-in_default-clause-answer
 returns-in_default-clause-answer g t c before rows others at holds =
     plans_last c.args.catalog.now c.args.place rows c.args.pending.changes c.args.writes.now (g.S.Store.content c.args.calls.now.store.now) before others c.finished.result
     (cut_none c.args.writes.now c.in_default.len_below) at c.finished.ensures.finishes holds
+
+pub returns-in_default-clause-own : goal.returns-in_default-clause-own
+returns-in_default-clause-own g t c =
+    behind_last c.args.catalog.now (g.S.Store.content c.args.calls.now.store.now) c.args.writes.now c.args.pending.changes c.finished.result
+    (cut_none c.args.writes.now c.in_default.len_below) c.finished.ensures.finishes
 
 pub plan_next-requires-clause-share : goal.plan_next-requires-clause-share
 plan_next-requires-clause-share g t c =
@@ -191,6 +197,62 @@ returns-in_ok-pending-in-Ok-Changes-clause-plan g t c =
     let few = later_few schema write c.args.pending.changes later.changes more (ap (λ a. a.changes) c.in_ok-pending-in-Ok-Changes.ensures) whole in
     let sum = changes_cut schema all write rest (cut_first all write c.in-len1-up.len_at_least c.write-item.is) in
     IfOk-weaker c.plan_from.result _ _ (λ result within. within_more _ _ result (omega (arith, few, sum)) within) c.plan_from.ensures.plan
+
+pub returns-in_ok-pending-in-Ok-Changes-clause-own : goal.returns-in_ok-pending-in-Ok-Changes-clause-own
+returns-in_ok-pending-in-Ok-Changes-clause-own g t c =
+    let schema = c.args.catalog.now in
+    let all = c.args.writes.now in
+    let write = c.write-item.result in
+    let rest : List Write = take (length all - 1) (drop 1 all) in
+    let old = c.args.pending.changes in
+    let later = c.in_ok-pending-in-Ok-Changes.pending in
+    let told = g.S.Store.content c.args.calls.now.store.now in
+    let own : HasWhole schema (seen_content old told) write c.in-Ok-Changes.changes =
+    subst (λ (plan : Planned). ChangesWhole schema (seen_content old told) write plan) c.in-Ok-Changes.field-0-is c.in-Ok-Changes.ensures.own in
+    IfOk-weaker c.plan_from.result _ _ (λ result behind.
+    behind_later schema all write rest (cut_first all write c.in-len1-up.len_at_least c.write-item.is) old later.changes c.in-Ok-Changes.changes (ap (λ a. a.changes) c.in_ok-pending-in-Ok-Changes.ensures)
+    told (g.S.Store.content c.plan_next.new.calls.store.now) result c.in-Ok-Changes.ensures.uses.reads.same own behind) c.plan_from.ensures.own
+
+pub returns-in-Err-clause-rounds : goal.returns-in-Err-clause-rounds
+returns-in-Err-clause-rounds g t c =
+    let schema = c.args.catalog.now in
+    let all = c.args.writes.now in
+    let write = c.write-item.result in
+    let few = c.in-Err.ensures.rounds in
+    let behind = write_behind c.args.pending.changes schema write in
+    let both = rounds_first schema all write (take (length all - 1) (drop 1 all)) (cut_first all write c.in-len1-up.len_at_least c.write-item.is) in
+    omega (arith, few, behind, both)
+
+pub returns-in-Ok-Refused-clause-rounds : goal.returns-in-Ok-Refused-clause-rounds
+returns-in-Ok-Refused-clause-rounds g t c =
+    let schema = c.args.catalog.now in
+    let all = c.args.writes.now in
+    let write = c.write-item.result in
+    let few = c.in-Ok-Refused.ensures.rounds in
+    let behind = write_behind c.args.pending.changes schema write in
+    let both = rounds_first schema all write (take (length all - 1) (drop 1 all)) (cut_first all write c.in-len1-up.len_at_least c.write-item.is) in
+    omega (arith, few, behind, both)
+
+pub returns-in_err-pending-in-Ok-Changes-clause-rounds : goal.returns-in_err-pending-in-Ok-Changes-clause-rounds
+returns-in_err-pending-in-Ok-Changes-clause-rounds g t c =
+    let schema = c.args.catalog.now in
+    let all = c.args.writes.now in
+    let write = c.write-item.result in
+    let few = c.in-Ok-Changes.ensures.rounds in
+    let behind = write_behind c.args.pending.changes schema write in
+    let both = rounds_first schema all write (take (length all - 1) (drop 1 all)) (cut_first all write c.in-len1-up.len_at_least c.write-item.is) in
+    omega (arith, few, behind, both)
+
+pub returns-in_ok-pending-in-Ok-Changes-clause-rounds : goal.returns-in_ok-pending-in-Ok-Changes-clause-rounds
+returns-in_ok-pending-in-Ok-Changes-clause-rounds g t c =
+    let schema = c.args.catalog.now in
+    let all = c.args.writes.now in
+    let write = c.write-item.result in
+    let few = c.in-Ok-Changes.ensures.rounds in
+    let more = c.plan_from.ensures.rounds in
+    let behind = write_behind c.args.pending.changes schema write in
+    let both = rounds_first schema all write (take (length all - 1) (drop 1 all)) (cut_first all write c.in-len1-up.len_at_least c.write-item.is) in
+    omega (arith, few, behind, both, more)
 
 pub returns-in_ok-pending-in-Ok-Changes-clause-can : goal.returns-in_ok-pending-in-Ok-Changes-clause-can
 returns-in_ok-pending-in-Ok-Changes-clause-can g t c =

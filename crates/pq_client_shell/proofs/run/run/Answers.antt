@@ -1,5 +1,5 @@
 use Rattle.pq_client_shell.proofs.Closing.{ends_of}
-use Rattle.pq_client_shell.proofs.Counting.{reads_long}
+use Rattle.pq_client_shell.proofs.Counting.{reads_long, reads_short}
 use Rattle.pq_client_shell.proofs.run.run.Goals as goal
 
 pub returns-clause-ends : goal.returns-clause-ends
@@ -7,3 +7,6 @@ returns-clause-ends g c = ends_of g.S.Store.answers c.args.k c.run_script-outcom
 
 pub returns-clause-too_long : goal.returns-clause-too_long
 returns-clause-too_long g c = reads_long c.run_script-outcome.result c.close.result _ _ _ _ c.run_script-outcome.ensures.counted c.close.ensures.closes
+
+pub returns-clause-short : goal.returns-clause-short
+returns-clause-short g c = reads_short c.run_script-outcome.result c.close.result _ _ _ _ c.run_script-outcome.ensures.counted c.close.ensures.closes

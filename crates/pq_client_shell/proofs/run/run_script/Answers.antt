@@ -6,7 +6,7 @@ use Rattle.pq_client_shell.proofs.run.run_script.Goals as goal
 pub returns-in_err-session-clause-err : goal.returns-in_err-session-clause-err
 returns-in_err-session-clause-err g c =
     let p = err_from_is_err_and c.from_residual.result c.from_residual.ensures.1 in
-    rw (p.1, p.2) (stops_opening c.args.k _ _ _ _ _ _ _ _ c.in_err-session.ensures.err)
+    rw (p.1, p.2) (stops_opening c.args.k _ _ _ _ _ _ _ _ c.in_err-session.ensures.err c.in_err-session.ensures.answered)
 
 pub returns-in_default-clause-err : goal.returns-in_default-clause-err
 returns-in_default-clause-err g c = stops_reading c.args.k _ _ _ _ _ _ _ _ c.in_ok-session.ensures.ok

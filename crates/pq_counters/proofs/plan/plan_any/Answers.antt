@@ -7,6 +7,9 @@ use Rattle.pq_counters.proofs.Counting.{nothing_counts}
 use Rattle.pq_counters.proofs.Small.{small_columns, counters_small}
 use Rattle.pq_tallies.specs.Defined.{counters_in}
 use Rattle.pq_counters.proofs.Within.{affords_less, uses_more, moves_read}
+use Rattle.pq_index_keep.specs.declared.plan.Planned.TheVariants.{Changes}
+use Rattle.pq_counters.specs.Whole.{CountsBy}
+use Rattle.pq_counters.proofs.Planning.{none_counts}
 use Rattle.pq_counters.proofs.plan.plan_any.Goals as goal
 
 pub all_moves-requires-clause-sets : goal.all_moves-requires-clause-sets
@@ -26,3 +29,10 @@ plan_by-requires-clause-share g c = affords_less _ _ _ (moves_read (counters_in 
 
 pub returns-clause-uses : goal.returns-clause-uses
 returns-clause-uses g c = uses_more g.S.Store.content g.S.Store.faults _ _ _ _ (moves_read (counters_in c.args.catalog.now) c.args.write.now) c.plan_by.ensures.uses
+
+pub returns-then-all_moves-eq0-clause-counts : goal.returns-then-all_moves-eq0-clause-counts
+returns-then-all_moves-eq0-clause-counts g c =
+    let schema = c.args.catalog.now in
+    let told = seen g.S.Store.content c.args.calls.now in
+    subst (λ (l : List Change). CountsBy schema c.args.write.now c.args.old.now told (Changes l)) (sym c.new.ensures)
+    (none_counts told schema c.args.write.now c.args.old.now c.requires.fits (sym c.all_moves.ensures.moves ∙ c.if-all_moves-eq0.true))

@@ -9,6 +9,7 @@ use Rattle.pq_index_keep.specs.declared.write.Write.TheVariants.{Update}
 use Rattle.pq_index_keep.proofs.Updating.{fit_sets}
 use Rattle.pq_tallies.specs.Defined.{counters_in}
 use Rattle.pq_counters.proofs.Moving.{updates_within}
+use Rattle.pq_counters.proofs.Planning.{rounds_within}
 use Rattle.pq_counters.proofs.Within.{affords_less, uses_more, counted_more, planned, explained}
 use Rattle.pq_counters.proofs.plan.plan_change.Goals as goal
 
@@ -46,3 +47,10 @@ returns-clause-answer g c =
     (planned (seen g.S.Store.content c.args.calls.now) c.args.catalog.now (Update c.args.table c.args.key.now c.args.sets.now c.args.conds.now) (Some old) (Some new) c.plan_moves.result c.requires.valid c.requires.update
     (record { goes = c.requires.fits; comes = fit_sets table c.args.sets.now old c.requires.update.each c.requires.comes.sums c.requires.fits })
     (rw c.requires.comes.is at c.plan_moves.ensures.answer))
+
+pub returns-clause-rounds : goal.returns-clause-rounds
+returns-clause-rounds g c =
+    rounds_within _ _ _ _ (updates_within c.args.table c.args.key.now c.args.sets.now c.args.conds.now c.args.old.now (counters_in c.args.catalog.now)) (rw c.requires.comes.is at c.plan_moves.ensures.rounds)
+
+pub returns-clause-counts : goal.returns-clause-counts
+returns-clause-counts g c = IfOk-weaker c.plan_moves.result _ _ (λ planned counts own has. counts) (rw c.requires.comes.is at c.plan_moves.ensures.counts)

@@ -19,3 +19,9 @@ returns-clause-answer g c =
     IfOk-weaker c.plan_removal.result _ _ (λ planned plans rows made others s is. plans rows made others s
     (found_row told schema rows others c.args.table c.args.key.now c.requires.valid c.requires.delete.number (kinds_from_fit _ _ c.requires.delete.fits) s (Some c.in-Some.old) (rw (c.in-Some.is) at c.requires.read)) is)
     c.plan_removal.ensures.answer
+
+pub returns-in_default-clause-counts : goal.returns-in_default-clause-counts
+returns-in_default-clause-counts g c = λ own has. absurd (rw (c.in_default.is) at has)
+
+pub returns-clause-counts : goal.returns-clause-counts
+returns-clause-counts g c = rw (c.in-Some.is) c.plan_removal.ensures.counts

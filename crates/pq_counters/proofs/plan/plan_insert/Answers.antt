@@ -7,6 +7,7 @@ use Rattle.pq_content.proofs.Values.{key_of_kinds}
 use Rattle.pq_index_keep.specs.declared.write.Write.TheVariants.{Insert}
 use Rattle.pq_tallies.specs.Defined.{counters_in}
 use Rattle.pq_counters.proofs.Moving.{inserts_within}
+use Rattle.pq_counters.proofs.Planning.{rounds_within}
 use Rattle.pq_counters.proofs.Within.{affords_less, uses_more, counted_more, planned, explained}
 use Rattle.pq_counters.proofs.plan.plan_insert.Goals as goal
 
@@ -35,3 +36,9 @@ pub returns-clause-answer : goal.returns-clause-answer
 returns-clause-answer g c =
     IfOk-weaker c.plan_moves.result _ _ (λ planned made rows after others s is. made rows after others s refl refl is)
     (planned (seen g.S.Store.content c.args.calls.now) c.args.catalog.now (Insert c.args.table c.args.row.now) None (Some c.args.row.now) c.plan_moves.result c.requires.valid c.requires.insert (record { goes = tt; comes = c.requires.insert.fits }) c.plan_moves.ensures.answer)
+
+pub returns-clause-rounds : goal.returns-clause-rounds
+returns-clause-rounds g c = rounds_within _ _ _ _ (inserts_within c.args.table c.args.row.now (counters_in c.args.catalog.now)) c.plan_moves.ensures.rounds
+
+pub returns-clause-counts : goal.returns-clause-counts
+returns-clause-counts g c = IfOk-weaker c.plan_moves.result _ _ (λ planned counts own has. counts) c.plan_moves.ensures.counts

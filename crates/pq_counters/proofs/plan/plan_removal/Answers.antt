@@ -5,6 +5,7 @@ use Rattle.pq_pending.specs.Calls.{seen_world, seen}
 use Rattle.pq_index_keep.specs.declared.write.Write.TheVariants.{Delete}
 use Rattle.pq_tallies.specs.Defined.{counters_in}
 use Rattle.pq_counters.proofs.Moving.{deletes_within}
+use Rattle.pq_counters.proofs.Planning.{rounds_within}
 use Rattle.pq_counters.proofs.Within.{affords_less, uses_more, counted_more, planned, explained}
 use Rattle.pq_counters.proofs.plan.plan_removal.Goals as goal
 
@@ -31,3 +32,9 @@ pub returns-clause-answer : goal.returns-clause-answer
 returns-clause-answer g c =
     IfOk-weaker c.plan_moves.result _ _ (λ planned made rows after others s found is. made rows after others s (sym found) refl is)
     (planned (seen g.S.Store.content c.args.calls.now) c.args.catalog.now (Delete c.args.table c.args.key.now c.args.conds.now) (Some c.args.old.now) None c.plan_moves.result c.requires.valid c.requires.delete (record { goes = c.requires.fits; comes = tt }) c.plan_moves.ensures.answer)
+
+pub returns-clause-rounds : goal.returns-clause-rounds
+returns-clause-rounds g c = rounds_within _ _ _ _ (deletes_within c.args.table c.args.key.now c.args.conds.now c.args.old.now (counters_in c.args.catalog.now)) c.plan_moves.ensures.rounds
+
+pub returns-clause-counts : goal.returns-clause-counts
+returns-clause-counts g c = IfOk-weaker c.plan_moves.result _ _ (λ planned counts own has. counts) c.plan_moves.ensures.counts

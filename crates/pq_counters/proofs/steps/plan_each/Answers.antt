@@ -1,83 +1,58 @@
-use Rattle.std.proofs.Common.{ℕ, length, map, take, get_or}
-use Rattle.std.specs.List.{sum_by}
+use Rattle.std.proofs.Common.{refl}
 use Rattle.std.specs.Option.{option_copied}
+use Rattle.std.proofs.lemmas.Result.{IfOk-weaker, IfErr-weaker}
+use Rattle.pq_schema.specs.Counters.{IsCounterNumber}
+use Rattle.pq_calls.specs.World.{Explains}
 use Rattle.pq_pending.specs.Calls.{seen_world, seen}
-use Rattle.pq_pending.proofs.Steps.{share_next, uses_next, uses_stop}
-use Rattle.pq_content.specs.Standing.{change_of}
-use Rattle.pq_tallies.specs.Defined.{counter_numbered}
-use Rattle.pq_tallies.proofs.Defined.{numbered_in}
-use Rattle.pq_counters.specs.Steps.{moves_at}
-use Rattle.pq_counters.proofs.Loop.{any_default, counted_later, number_here, moved_next, moved_last, few_next, can_here}
-use Rattle.pq_counters.proofs.Moving.{tells_move}
+use Rattle.pq_index_keep.proofs.Inserting.{each_by}
+use Rattle.pq_counters.specs.Steps.{MovesLittle, SpoilsMoves}
+use Rattle.pq_counters.proofs.Grouping.{length_groups, each_group, groups_explain, counted_told, planned_told}
 use Rattle.pq_counters.proofs.steps.plan_each.Goals as goal
 
-pub plan_numbered-requires-clause-share : goal.plan_numbered-requires-clause-share
-plan_numbered-requires-clause-share g c =
-    let numbers = c.args.numbers.now in
-    let i = c.loop-number.number-index in
-    let n : ℕ = get_or numbers i 0 in
-    let f = moves_at c.args.catalog.now c.args.table (option_copied c.args.old) (option_copied c.args.new) in
-    share_next g.S.Store.content g.S.Store.faults f f numbers i n c.loop-number-test.true (any_default numbers i 0 n c.loop-number-test.true) _ _ c.loop-number.invariant.uses c.requires.share
-
-pub returns-in_err-full-clause-uses : goal.returns-in_err-full-clause-uses
-returns-in_err-full-clause-uses g c =
-    let numbers = c.args.numbers.now in
-    let i = c.loop-number.number-index in
-    let n : ℕ = get_or numbers i 0 in
-    let f = moves_at c.args.catalog.now c.args.table (option_copied c.args.old) (option_copied c.args.new) in
-    uses_stop g.S.Store.content g.S.Store.faults f f numbers i n c.loop-number-test.true (any_default numbers i 0 n c.loop-number-test.true) _ _ _ c.loop-number.invariant.uses c.plan_numbered.ensures.uses
-
-pub returns-in-Some-clause-uses : goal.returns-in-Some-clause-uses
-returns-in-Some-clause-uses g c =
-    let numbers = c.args.numbers.now in
-    let i = c.loop-number.number-index in
-    let n : ℕ = get_or numbers i 0 in
-    let f = moves_at c.args.catalog.now c.args.table (option_copied c.args.old) (option_copied c.args.new) in
-    uses_stop g.S.Store.content g.S.Store.faults f f numbers i n c.loop-number-test.true (any_default numbers i 0 n c.loop-number-test.true) _ _ _ c.loop-number.invariant.uses c.plan_numbered.ensures.uses
-
-pub returns-in-Some-clause-can : goal.returns-in-Some-clause-can
-returns-in-Some-clause-can g c =
-    let numbers = c.args.numbers.now in
-    let i = c.loop-number.number-index in
-    let n : ℕ = get_or numbers i 0 in
-    can_here c.args.catalog.now c.args.table (option_copied c.args.old) (option_copied c.args.new) numbers i n c.loop-number-test.true (any_default numbers i 0 n c.loop-number-test.true)
-    c.in_ok-full.full c.in-Some.why c.requires.numbers c.in-Some.is c.in_ok-full.ensures.full
-
-pub returns-in-Some-clause-answer : goal.returns-in-Some-clause-answer
-returns-in-Some-clause-answer g c = λ rows others s is.
+pub plan_groups-requires-clause-each : goal.plan_groups-requires-clause-each
+plan_groups-requires-clause-each g c =
     let schema = c.args.catalog.now in
-    let numbers = c.args.numbers.now in
-    let i = c.loop-number.number-index in
-    let n : ℕ = get_or numbers i 0 in
-    let at = any_default numbers i 0 n c.loop-number-test.true in
     let old = option_copied c.args.old in
     let new = option_copied c.args.new in
-    let so_far : ℕ = sum_by (moves_at schema c.args.table old new) (take i numbers) in
-    let here = number_here schema c.args.table old new numbers i n c.loop-number-test.true at c.requires.numbers in
-    let later = counted_later (seen_world g.S.Store.content g.S.Store.faults c.args.calls.now) (seen_world g.S.Store.content g.S.Store.faults c.loop-number.calls) so_far so_far schema rows others c.loop-number.invariant.uses.reads s in
-    let tells = tells_move (seen g.S.Store.content c.loop-number.calls) schema rows others c.args.table old new (counter_numbered schema n) c.known.ensures later (numbered_in schema n here) is in
-    moved_last schema c.args.table old new numbers i n c.loop-number-test.true at rows
-    (map change_of c.loop-number.changes) (map change_of c.plan_numbered.new.changes) c.in_ok-full.full c.in-Some.why (c.in_ok-full.ensures.answer rows tells) c.in-Some.is c.in_ok-full.ensures.full (c.loop-number.invariant.answer rows others s is).1
+    rw (c.items.ensures, c.in_ok-groups.ensures)
+    (each_group schema c.args.table old new c.args.numbers.now (each_by (IsCounterNumber schema) _ c.requires.numbers) (each_by (MovesLittle schema c.args.table old new) _ c.requires.small))
 
-pub loop-number-preserved : goal.loop-number-preserved
-loop-number-preserved g c =
+pub plan_groups-requires-clause-share : goal.plan_groups-requires-clause-share
+plan_groups-requires-clause-share g c =
+    rw (c.items.ensures, c.in_ok-groups.ensures, length_groups c.args.catalog.now c.args.table (option_copied c.args.old) (option_copied c.args.new) c.args.numbers.now) c.requires.share
+
+pub returns-clause-uses : goal.returns-clause-uses
+returns-clause-uses g c =
+    rw (c.items.ensures, c.in_ok-groups.ensures, length_groups c.args.catalog.now c.args.table (option_copied c.args.old) (option_copied c.args.new) c.args.numbers.now) at c.plan_groups.ensures.uses
+
+pub returns-clause-rounds : goal.returns-clause-rounds
+returns-clause-rounds g c =
+    rw (c.items.ensures, c.in_ok-groups.ensures, length_groups c.args.catalog.now c.args.table (option_copied c.args.old) (option_copied c.args.new) c.args.numbers.now) at c.plan_groups.ensures.rounds
+
+pub returns-clause-plan : goal.returns-clause-plan
+returns-clause-plan g c =
+    rw (c.items.ensures, c.in_ok-groups.ensures, length_groups c.args.catalog.now c.args.table (option_copied c.args.old) (option_copied c.args.new) c.args.numbers.now) at c.plan_groups.ensures.plan
+
+pub returns-clause-cause : goal.returns-clause-cause
+returns-clause-cause g c =
     let schema = c.args.catalog.now in
-    let numbers = c.args.numbers.now in
-    let i = c.loop-number.number-index in
-    let n : ℕ = get_or numbers i 0 in
-    let at = any_default numbers i 0 n c.loop-number-test.true in
     let old = option_copied c.args.old in
     let new = option_copied c.args.new in
-    let f = moves_at schema c.args.table old new in
-    let so_far : ℕ = sum_by f (take i numbers) in
-    let here = number_here schema c.args.table old new numbers i n c.loop-number-test.true at c.requires.numbers in
-    record {
-      uses = uses_next g.S.Store.content g.S.Store.faults f f numbers i n c.loop-number-test.true at _ _ _ c.loop-number.invariant.uses c.plan_numbered.ensures.uses;
-      few = few_next schema c.args.table old new numbers i n c.loop-number-test.true at (length c.loop-number.changes) (length c.plan_numbered.new.changes) c.loop-number.invariant.few c.in_ok-full.ensures.few;
-      each = c.in_ok-full.ensures.each c.loop-number.invariant.each;
-      answer = λ rows others s is.
-          let later = counted_later (seen_world g.S.Store.content g.S.Store.faults c.args.calls.now) (seen_world g.S.Store.content g.S.Store.faults c.loop-number.calls) so_far so_far schema rows others c.loop-number.invariant.uses.reads s in
-          let tells = tells_move (seen g.S.Store.content c.loop-number.calls) schema rows others c.args.table old new (counter_numbered schema n) c.known.ensures later (numbered_in schema n here) is in
-          moved_next schema c.args.table old new numbers i n c.loop-number-test.true at rows
-          (map change_of c.loop-number.changes) (map change_of c.plan_numbered.new.changes) c.in_ok-full.full (c.in_ok-full.ensures.answer rows tells) c.in_default.is (c.loop-number.invariant.answer rows others s is);
-    }
+    let before = seen_world g.S.Store.content g.S.Store.faults c.args.calls.now in
+    let after = seen_world g.S.Store.content g.S.Store.faults c.plan_groups.new.calls in
+    IfErr-weaker c.plan_groups.result _ (Explains (SpoilsMoves schema c.args.table old new) before after)
+    (λ error. groups_explain schema c.args.table old new (seen g.S.Store.content c.args.calls.now) c.args.numbers.now (each_by (IsCounterNumber schema) _ c.requires.numbers) before after error refl)
+    (rw (c.items.ensures, c.in_ok-groups.ensures) at c.plan_groups.ensures.cause)
+
+pub returns-clause-counts : goal.returns-clause-counts
+returns-clause-counts g c =
+    IfOk-weaker c.plan_groups.result _ _
+    (λ planned. counted_told c.args.catalog.now c.args.table (option_copied c.args.old) (option_copied c.args.new) c.args.numbers.now (seen g.S.Store.content c.args.calls.now) planned)
+    (rw (c.items.ensures, c.in_ok-groups.ensures) at c.plan_groups.ensures.plans)
+
+pub returns-clause-answer : goal.returns-clause-answer
+returns-clause-answer g c =
+    let schema = c.args.catalog.now in
+    IfOk-weaker c.plan_groups.result _ _
+    (λ planned. planned_told schema c.args.table (option_copied c.args.old) (option_copied c.args.new) c.args.numbers.now (seen g.S.Store.content c.args.calls.now) planned c.known.ensures (each_by (IsCounterNumber schema) _ c.requires.numbers))
+    (rw (c.items.ensures, c.in_ok-groups.ensures) at c.plan_groups.ensures.plans)

@@ -7,6 +7,7 @@ use Rattle.pq_counters.proofs.Short.{all_short, removes_same}
 use Rattle.pq_counters.specs.Bounds.{all_moves}
 use Rattle.pq_counters.specs.Promises.{Counts, IsCountedWithin}
 use Rattle.pq_counters.proofs.Joining.{are_whole, has_whole, full_refused, whole_made}
+use Rattle.pq_counters.specs.Whole.{CountsBy}
 use Rattle.pq_counters.proofs.whole.plan_more.Goals as goal
 
 pub returns-in-Ok-Refused-clause-answer : goal.returns-in-Ok-Refused-clause-answer
@@ -26,8 +27,10 @@ returns-in-Ok-clause-plan g c =
 pub returns-in-Ok-clause-own : goal.returns-in-Ok-clause-own
 returns-in-Ok-clause-own g c =
     let counted : IsCountedWithin (all_moves (counters_in c.args.catalog.now) c.args.write.now) (Changes c.in-Ok-Changes.more) = subst (IsCountedWithin (all_moves (counters_in c.args.catalog.now) c.args.write.now)) c.in-Ok-Changes.field-0-is c.in-Ok-Changes.ensures.plan in
-    has_whole c.args.catalog.now (seen_content c.args.pending.now.changes (g.S.Store.content c.args.store.now)) c.args.write.now c.args.old.now c.args.changes c.in-Ok-Changes.more c.in-Ok.all
-    c.requires.read c.requires.fits c.requires.own counted.each c.in-Ok.ensures
+    let told = seen_content c.args.pending.now.changes (g.S.Store.content c.args.store.now) in
+    has_whole c.args.catalog.now told c.args.write.now c.args.old.now c.args.changes c.in-Ok-Changes.more c.in-Ok.all
+    c.requires.read c.requires.fits c.requires.own counted.each
+    (subst (CountsBy c.args.catalog.now c.args.write.now c.args.old.now told) c.in-Ok-Changes.field-0-is c.in-Ok-Changes.ensures.counts) c.in-Ok.ensures
 
 pub returns-in-Ok-clause-answer : goal.returns-in-Ok-clause-answer
 returns-in-Ok-clause-answer g c = λ rows made others s is makes.

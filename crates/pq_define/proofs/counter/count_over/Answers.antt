@@ -5,7 +5,7 @@ use Rattle.std.specs.FinMap.{get}
 use Rattle.pq_schema.specs.Schema.{Schema}
 use Rattle.pq_store.specs.Breaks.{IfDamaged, IsPresent, IsUndamaged}
 use Rattle.pq_store.specs.declared.damage.Broke.TheVariants.{NoMem}
-use Rattle.pq_define.specs.Calls.{MayPut, PutsNew}
+use Rattle.pq_reports.specs.Putting.{MayPut, PutsNew}
 use Rattle.pq_catalog.specs.Stands.{last_key, last_value}
 use Rattle.pq_define.proofs.Counting.{counter_broke, counter_done, counting_broke, crowded_done}
 use Rattle.pq_define.proofs.counter.count_over.Goals as goal

@@ -1,7 +1,8 @@
-use Rattle.std.proofs.Common.{◌≡◌, Some, Err, subst}
+use Rattle.std.proofs.Common.{arith, ◌≡◌, Some, Err, subst}
 use Rattle.pq_base.specs.Answers.{Passes}
 use Rattle.pq_base.specs.declared.refusal.Stopped.{Stopped}
-use Rattle.pq_schema.specs.Definitions.{counter_refusal}
+use Rattle.pq_schema.specs.Definitions.{counted_schema, counter_refusal, new_counter}
+use Rattle.pq_define.proofs.Defining.{none_asked, some_asked}
 use Rattle.pq_define.proofs.Counting.{counter_accepted, counter_refused}
 use Rattle.pq_reports.proofs.Promises.{broken_same, unread_done}
 use Rattle.pq_define.proofs.counter.create_counter.Goals as goal
@@ -20,3 +21,12 @@ returns-in-Err-Refused-clause-step g c =
 
 pub returns-in-Ok-clause-step : goal.returns-in-Ok-clause-step
 returns-in-Ok-clause-step g c = rw (counter_accepted c.args.planned c.args.def c.in-Ok.ensures.passes) c.count_over.ensures.step
+
+pub returns-in-Err-NoMem-clause-rounds : goal.returns-in-Err-NoMem-clause-rounds
+returns-in-Err-NoMem-clause-rounds g c = none_asked 2 (new_counter c.args.planned c.args.def) (g.S.Store.rounds c.args.store.now) (g.S.Store.rounds c.args.store.now) (omega arith)
+
+pub returns-in-Err-Refused-clause-rounds : goal.returns-in-Err-Refused-clause-rounds
+returns-in-Err-Refused-clause-rounds g c = none_asked 2 (new_counter c.args.planned c.args.def) (g.S.Store.rounds c.args.store.now) (g.S.Store.rounds c.args.store.now) (omega arith)
+
+pub returns-in-Ok-clause-rounds : goal.returns-in-Ok-clause-rounds
+returns-in-Ok-clause-rounds g c = some_asked 2 (new_counter c.args.planned c.args.def) (counted_schema c.args.planned c.args.def) _ _ (counter_accepted c.args.planned c.args.def c.in-Ok.ensures.passes) c.count_over.ensures.rounds

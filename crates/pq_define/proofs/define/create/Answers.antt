@@ -1,9 +1,10 @@
-use Rattle.std.proofs.Common.{ℕ, List, Result, subst}
+use Rattle.std.proofs.Common.{arith, ℕ, List, Result, subst}
 use Rattle.std.proofs.lemmas.Result.{err_from_is_err_and}
 use Rattle.pq_base.specs.declared.refusal.Refusal.{Refusal}
 use Rattle.pq_print.specs.declared.report.Line.{Line}
+use Rattle.pq_schema.specs.Definitions.{new_table}
 use Rattle.pq_catalog.specs.Extends.{Extends}
-use Rattle.pq_define.proofs.Defining.{IsWritten, table_written}
+use Rattle.pq_define.proofs.Defining.{IsWritten, none_asked, some_asked, table_written}
 use Rattle.pq_reports.proofs.Promises.{unread_done, broken_same}
 use Rattle.pq_define.proofs.define.create.Goals as goal
 
@@ -30,3 +31,17 @@ returns-in_ok-lines-in-Ok-clause-step g c =
     (w.done, w.put, w.stopped, w.damage, w.meter, w.within, w.shown, w.kept) in
     table_written _ _ c.args.planned c.in_ok-planned.planned c.args.number c.args.def c.requires c.in-Ok.table _ _ c.write_last.result e
     (subst (λ (lines : List Line). IsWritten (g.S.Store.content c.args.store.now) (g.S.Store.content c.write_last.new.store) c.in_ok-planned.planned c.args.number lines c.args.meter.now c.write_last.new.meter c.write_last.result) c.in_ok-lines-in-Ok.ensures all)
+
+pub returns-in_err-planned-clause-rounds : goal.returns-in_err-planned-clause-rounds
+returns-in_err-planned-clause-rounds g c = none_asked 1 (new_table c.args.planned c.args.def) (g.S.Store.rounds c.args.store.now) (g.S.Store.rounds c.args.store.now) (omega arith)
+
+pub returns-in-Err-clause-rounds : goal.returns-in-Err-clause-rounds
+returns-in-Err-clause-rounds g c = none_asked 1 (new_table c.args.planned c.args.def) (g.S.Store.rounds c.args.store.now) (g.S.Store.rounds c.args.store.now) (omega arith)
+
+pub returns-in_err-lines-in-Ok-clause-rounds : goal.returns-in_err-lines-in-Ok-clause-rounds
+returns-in_err-lines-in-Ok-clause-rounds g c = none_asked 1 (new_table c.args.planned c.args.def) (g.S.Store.rounds c.args.store.now) (g.S.Store.rounds c.args.store.now) (omega arith)
+
+pub returns-in_ok-lines-in-Ok-clause-rounds : goal.returns-in_ok-lines-in-Ok-clause-rounds
+returns-in_ok-lines-in-Ok-clause-rounds g c =
+    let e = subst (λ (r : Result ℕ Refusal). Extends c.args.planned c.args.def c.in_ok-planned.planned r) c.in-Ok.is c.in_ok-planned.ensures in
+    some_asked 1 (new_table c.args.planned c.args.def) e.0 _ _ e.1 c.write_last.ensures.rounds

@@ -1,6 +1,6 @@
 use Rattle.std.proofs.Common.{arith}
 use Rattle.std.proofs.lemmas.Result.{IfOk-weaker}
-use Rattle.pq_exec.proofs.Running.{input_smaller, input_runnable, input_share, input_reads, node_ready, node_first, node_inputs, node_share, tree_reads, tree_given, tree_found, tree_answers}
+use Rattle.pq_exec.proofs.Running.{input_smaller, input_runnable, input_share, input_reads, input_rounds, tree_rounds, node_ready, node_first, node_inputs, node_share, tree_reads, tree_given, tree_found, tree_answers}
 use Rattle.pq_exec.proofs.tree.+run.Goals as goal
 
 pub run-requires : goal.run-requires
@@ -58,3 +58,11 @@ pub returns-in_ok-inputs-in-Some-clause-codes : goal.returns-in_ok-inputs-in-Som
 returns-in_ok-inputs-in-Some-clause-codes g t c =
     tree_found c.args.request.now.catalog.now.tables c.args.request.now.query.now c.args.tree.now c.in-Some.input.now c.in-Some.ensures c.requires.runnable
     c.args.request.now.params.now _ _ _ c.in_ok-inputs-in-Some.inputs c.run_node.result c.run.ensures.reads.same c.in_ok-inputs-in-Some.ensures.codes c.run_node.ensures.codes c.run_node.ensures.given
+
+pub returns-in_err-inputs-in-Some-clause-rounds : goal.returns-in_err-inputs-in-Some-clause-rounds
+returns-in_err-inputs-in-Some-clause-rounds g t c =
+    input_rounds c.args.tree.now c.in-Some.input.now c.in-Some.ensures _ _ c.run.ensures.rounds
+
+pub returns-in_ok-inputs-in-Some-clause-rounds : goal.returns-in_ok-inputs-in-Some-clause-rounds
+returns-in_ok-inputs-in-Some-clause-rounds g t c =
+    tree_rounds c.args.tree.now c.in-Some.input.now c.in-Some.ensures _ _ _ c.run.ensures.rounds c.run_node.ensures.rounds

@@ -1,34 +1,102 @@
-use Rattle.std.proofs.Common.{Some, sym, ap, ◌∙◌}
-use Rattle.pq_index_keep.proofs.Deleting.{named_here, child_found, child_later}
-use Rattle.pq_index_keep.proofs.Steps.{settled_later, referring_share, referring_next, referring_stop}
+use Rattle.std.proofs.Common.{◌≡◌, ◌∙◌, ◌++◌, List, None, Some, sym, ap, subst, arith}
+use Rattle.std.specs.Prelude.{option_map}
+use Rattle.pq_base.specs.declared.refusal.Refusal.{Refusal}
+use Rattle.pq_store.specs.declared.store.Test.{Test}
+use Rattle.pq_pending.specs.Calls.{seen}
+use Rattle.pq_pending.proofs.Steps.{uses_within}
+use Rattle.pq_index_keep.specs.Asking.{child_tests, child_refusal_at}
+use Rattle.pq_index_keep.specs.Refusals.{IsDeleteRefusal}
+use Rattle.pq_index_keep.proofs.Referring.{child_told, child_can, child_within, children_cheap, children_countable, children_rounds}
 use Rattle.pq_index_keep.proofs.references.child_refusal.Goals as goal
 
-pub first_naming-requires-clause-share : goal.first_naming-requires-clause-share
-first_naming-requires-clause-share g c =
-    referring_share g.S.Store.content g.S.Store.faults c.args.number c.args.tables.now c.loop-i.i c.index-tables-i.result c.items-foreign.result.now c.loop-i-test.true c.index-tables-i.is c.items-foreign.ensures _ _ c.loop-i.invariant.uses c.requires.share
+pub first_held-requires-clause-few : goal.first_held-requires-clause-few
+first_held-requires-clause-few g c =
+    let are : c.items.result.now ≡ child_tests c.args.number c.args.key.now 1 c.args.tables.now =
+    c.items.ensures ∙ c.in_ok-ask_children.ensures ∙ ap (λ (ts : List Test). ts ++ child_tests c.args.number c.args.key.now 1 c.args.tables.now) c.new-tests.ensures in
+    children_countable c.args.calls.now.pending.now.changes c.args.calls.now.pending.now.removers c.known.ensures.thin c.requires.removers c.args.number c.args.key.now c.args.tables.now c.items.result.now are
 
-pub returns-in_err-naming-clause-uses : goal.returns-in_err-naming-clause-uses
-returns-in_err-naming-clause-uses g c = referring_stop g.S.Store.content g.S.Store.faults c.args.number c.args.tables.now c.loop-i.i c.index-tables-i.result c.items-foreign.result.now c.loop-i-test.true c.index-tables-i.is c.items-foreign.ensures _ _ _ c.loop-i.invariant.uses c.first_naming.ensures.uses
+pub first_held-requires-clause-share : goal.first_held-requires-clause-share
+first_held-requires-clause-share g c =
+    let are : c.items.result.now ≡ child_tests c.args.number c.args.key.now 1 c.args.tables.now =
+    c.items.ensures ∙ c.in_ok-ask_children.ensures ∙ ap (λ (ts : List Test). ts ++ child_tests c.args.number c.args.key.now 1 c.args.tables.now) c.new-tests.ensures in
+    let cheap = children_cheap c.args.calls.now.pending.now.changes c.args.calls.now.pending.now.removers c.known.ensures.thin c.args.number c.args.key.now c.args.tables.now c.items.result.now are in
+    record { ops_left = omega (arith, cheap.few, c.requires.share.ops_left); entries_left = omega (arith, cheap.short, c.requires.share.entries_left) }
 
-pub returns-in_err-referenced-clause-uses : goal.returns-in_err-referenced-clause-uses
-returns-in_err-referenced-clause-uses g c = referring_stop g.S.Store.content g.S.Store.faults c.args.number c.args.tables.now c.loop-i.i c.index-tables-i.result c.items-foreign.result.now c.loop-i-test.true c.index-tables-i.is c.items-foreign.ensures _ _ _ c.loop-i.invariant.uses c.first_naming.ensures.uses
+pub returns-in_err-first_held-clause-uses : goal.returns-in_err-first_held-clause-uses
+returns-in_err-first_held-clause-uses g c =
+    let are : c.items.result.now ≡ child_tests c.args.number c.args.key.now 1 c.args.tables.now =
+    c.items.ensures ∙ c.in_ok-ask_children.ensures ∙ ap (λ (ts : List Test). ts ++ child_tests c.args.number c.args.key.now 1 c.args.tables.now) c.new-tests.ensures in
+    let cheap = children_cheap c.args.calls.now.pending.now.changes c.args.calls.now.pending.now.removers c.known.ensures.thin c.args.number c.args.key.now c.args.tables.now c.items.result.now are in
+    uses_within g.S.Store.content g.S.Store.faults c.args.calls.now c.first_held.new.self _ _ _ _ c.first_held.ensures.uses cheap.few cheap.short
 
-pub returns-in-Some-clause-uses : goal.returns-in-Some-clause-uses
-returns-in-Some-clause-uses g c = referring_stop g.S.Store.content g.S.Store.faults c.args.number c.args.tables.now c.loop-i.i c.index-tables-i.result c.items-foreign.result.now c.loop-i-test.true c.index-tables-i.is c.items-foreign.ensures _ _ _ c.loop-i.invariant.uses c.first_naming.ensures.uses
+pub returns-in-None-clause-uses : goal.returns-in-None-clause-uses
+returns-in-None-clause-uses g c =
+    let are : c.items.result.now ≡ child_tests c.args.number c.args.key.now 1 c.args.tables.now =
+    c.items.ensures ∙ c.in_ok-ask_children.ensures ∙ ap (λ (ts : List Test). ts ++ child_tests c.args.number c.args.key.now 1 c.args.tables.now) c.new-tests.ensures in
+    let cheap = children_cheap c.args.calls.now.pending.now.changes c.args.calls.now.pending.now.removers c.known.ensures.thin c.args.number c.args.key.now c.args.tables.now c.items.result.now are in
+    uses_within g.S.Store.content g.S.Store.faults c.args.calls.now c.first_held.new.self _ _ _ _ c.first_held.ensures.uses cheap.few cheap.short
 
-pub returns-in-Some-clause-answer : goal.returns-in-Some-clause-answer
-returns-in-Some-clause-answer g c = λ rows others s.
-    let tables = c.args.tables.now in
-    let later = settled_later _ _ _ _ tables rows others c.loop-i.invariant.uses.reads s in
-    let found = named_here rows c.args.number c.args.key.now tables c.loop-i.i c.index-tables-i.result c.items-foreign.result.now c.in_ok-naming.naming _ others c.loop-i-test.true c.index-tables-i.is c.items-foreign.ensures c.requires.may later (c.in_ok-naming.ensures.answer tables rows others later) in
-    sym (c.loop-i.invariant.rest rows others s ∙ child_found rows c.args.number c.args.key.now tables c.loop-i.i c.index-tables-i.result c.in_ok-naming.naming c.in-Some.place c.loop-i-test.true c.index-tables-i.is found c.in-Some.is ∙ ap Some (sym c.in_ok-referenced.ensures))
+pub returns-in_err-child_refusal_at-in-Some-clause-uses : goal.returns-in_err-child_refusal_at-in-Some-clause-uses
+returns-in_err-child_refusal_at-in-Some-clause-uses g c =
+    let are : c.items.result.now ≡ child_tests c.args.number c.args.key.now 1 c.args.tables.now =
+    c.items.ensures ∙ c.in_ok-ask_children.ensures ∙ ap (λ (ts : List Test). ts ++ child_tests c.args.number c.args.key.now 1 c.args.tables.now) c.new-tests.ensures in
+    let cheap = children_cheap c.args.calls.now.pending.now.changes c.args.calls.now.pending.now.removers c.known.ensures.thin c.args.number c.args.key.now c.args.tables.now c.items.result.now are in
+    uses_within g.S.Store.content g.S.Store.faults c.args.calls.now c.first_held.new.self _ _ _ _ c.first_held.ensures.uses cheap.few cheap.short
 
-pub loop-i-preserved : goal.loop-i-preserved
-loop-i-preserved g c = record {
-  uses = referring_next g.S.Store.content g.S.Store.faults c.args.number c.args.tables.now c.loop-i.i c.index-tables-i.result c.items-foreign.result.now c.loop-i-test.true c.index-tables-i.is c.items-foreign.ensures _ _ _ c.loop-i.invariant.uses c.first_naming.ensures.uses;
-  rest = λ rows others s.
-      let tables = c.args.tables.now in
-      let later = settled_later _ _ _ _ tables rows others c.loop-i.invariant.uses.reads s in
-      let found = named_here rows c.args.number c.args.key.now tables c.loop-i.i c.index-tables-i.result c.items-foreign.result.now c.in_ok-naming.naming _ others c.loop-i-test.true c.index-tables-i.is c.items-foreign.ensures c.requires.may later (c.in_ok-naming.ensures.answer tables rows others later) in
-      c.loop-i.invariant.rest rows others s ∙ child_later rows c.args.number c.args.key.now tables c.loop-i.i c.index-tables-i.result c.in_ok-naming.naming c.loop-i-test.true c.index-tables-i.is found c.in_default.is;
-}
+pub returns-clause-uses : goal.returns-clause-uses
+returns-clause-uses g c =
+    let are : c.items.result.now ≡ child_tests c.args.number c.args.key.now 1 c.args.tables.now =
+    c.items.ensures ∙ c.in_ok-ask_children.ensures ∙ ap (λ (ts : List Test). ts ++ child_tests c.args.number c.args.key.now 1 c.args.tables.now) c.new-tests.ensures in
+    let cheap = children_cheap c.args.calls.now.pending.now.changes c.args.calls.now.pending.now.removers c.known.ensures.thin c.args.number c.args.key.now c.args.tables.now c.items.result.now are in
+    uses_within g.S.Store.content g.S.Store.faults c.args.calls.now c.first_held.new.self _ _ _ _ c.first_held.ensures.uses cheap.few cheap.short
+
+pub returns-in_err-first_held-clause-rounds : goal.returns-in_err-first_held-clause-rounds
+returns-in_err-first_held-clause-rounds g c =
+    let are : c.items.result.now ≡ child_tests c.args.number c.args.key.now 1 c.args.tables.now =
+    c.items.ensures ∙ c.in_ok-ask_children.ensures ∙ ap (λ (ts : List Test). ts ++ child_tests c.args.number c.args.key.now 1 c.args.tables.now) c.new-tests.ensures in
+    omega (arith, c.first_held.ensures.rounds, children_rounds c.args.calls.now.pending.now.changes c.args.calls.now.pending.now.removers c.known.ensures.thin c.args.number c.args.key.now c.args.tables.now c.items.result.now are)
+
+pub returns-in-None-clause-rounds : goal.returns-in-None-clause-rounds
+returns-in-None-clause-rounds g c =
+    let are : c.items.result.now ≡ child_tests c.args.number c.args.key.now 1 c.args.tables.now =
+    c.items.ensures ∙ c.in_ok-ask_children.ensures ∙ ap (λ (ts : List Test). ts ++ child_tests c.args.number c.args.key.now 1 c.args.tables.now) c.new-tests.ensures in
+    omega (arith, c.first_held.ensures.rounds, children_rounds c.args.calls.now.pending.now.changes c.args.calls.now.pending.now.removers c.known.ensures.thin c.args.number c.args.key.now c.args.tables.now c.items.result.now are)
+
+pub returns-in_err-child_refusal_at-in-Some-clause-rounds : goal.returns-in_err-child_refusal_at-in-Some-clause-rounds
+returns-in_err-child_refusal_at-in-Some-clause-rounds g c =
+    let are : c.items.result.now ≡ child_tests c.args.number c.args.key.now 1 c.args.tables.now =
+    c.items.ensures ∙ c.in_ok-ask_children.ensures ∙ ap (λ (ts : List Test). ts ++ child_tests c.args.number c.args.key.now 1 c.args.tables.now) c.new-tests.ensures in
+    omega (arith, c.first_held.ensures.rounds, children_rounds c.args.calls.now.pending.now.changes c.args.calls.now.pending.now.removers c.known.ensures.thin c.args.number c.args.key.now c.args.tables.now c.items.result.now are)
+
+pub returns-clause-rounds : goal.returns-clause-rounds
+returns-clause-rounds g c =
+    let are : c.items.result.now ≡ child_tests c.args.number c.args.key.now 1 c.args.tables.now =
+    c.items.ensures ∙ c.in_ok-ask_children.ensures ∙ ap (λ (ts : List Test). ts ++ child_tests c.args.number c.args.key.now 1 c.args.tables.now) c.new-tests.ensures in
+    omega (arith, c.first_held.ensures.rounds, children_rounds c.args.calls.now.pending.now.changes c.args.calls.now.pending.now.removers c.known.ensures.thin c.args.number c.args.key.now c.args.tables.now c.items.result.now are)
+
+pub returns-in-None-clause-answer : goal.returns-in-None-clause-answer
+returns-in-None-clause-answer g c = λ rows others s.
+    let are : c.items.result.now ≡ child_tests c.args.number c.args.key.now 1 c.args.tables.now =
+    c.items.ensures ∙ c.in_ok-ask_children.ensures ∙ ap (λ (ts : List Test). ts ++ child_tests c.args.number c.args.key.now 1 c.args.tables.now) c.new-tests.ensures in
+    child_told c.args.tables.now rows others (seen g.S.Store.content c.args.calls.now) s c.args.number c.args.key.now c.items.result.now c.in_ok-first_held.field-0 None c.requires.sound c.requires.may are c.in_ok-first_held.ensures.answer
+    (ap (option_map (child_refusal_at c.args.number c.args.tables.now)) (sym c.in-None.is))
+
+pub child_refusal_at-requires-clause-within : goal.child_refusal_at-requires-clause-within
+child_refusal_at-requires-clause-within g c =
+    let are : c.items.result.now ≡ child_tests c.args.number c.args.key.now 1 c.args.tables.now =
+    c.items.ensures ∙ c.in_ok-ask_children.ensures ∙ ap (λ (ts : List Test). ts ++ child_tests c.args.number c.args.key.now 1 c.args.tables.now) c.new-tests.ensures in
+    child_within c.args.number c.args.key.now c.args.tables.now c.items.result.now c.in_ok-first_held.field-0 c.in-Some.at are c.in-Some.is c.in_ok-first_held.ensures.within
+
+pub returns-clause-can : goal.returns-clause-can
+returns-clause-can g c =
+    let are : c.items.result.now ≡ child_tests c.args.number c.args.key.now 1 c.args.tables.now =
+    c.items.ensures ∙ c.in_ok-ask_children.ensures ∙ ap (λ (ts : List Test). ts ++ child_tests c.args.number c.args.key.now 1 c.args.tables.now) c.new-tests.ensures in
+    subst (λ (why : Refusal). IsDeleteRefusal c.args.tables.now why) (sym c.in_ok-child_refusal_at-in-Some.ensures)
+    (child_can c.args.number c.args.tables.now c.in-Some.at (child_within c.args.number c.args.key.now c.args.tables.now c.items.result.now c.in_ok-first_held.field-0 c.in-Some.at are c.in-Some.is c.in_ok-first_held.ensures.within))
+
+pub returns-clause-answer : goal.returns-clause-answer
+returns-clause-answer g c = λ rows others s.
+    let are : c.items.result.now ≡ child_tests c.args.number c.args.key.now 1 c.args.tables.now =
+    c.items.ensures ∙ c.in_ok-ask_children.ensures ∙ ap (λ (ts : List Test). ts ++ child_tests c.args.number c.args.key.now 1 c.args.tables.now) c.new-tests.ensures in
+    child_told c.args.tables.now rows others (seen g.S.Store.content c.args.calls.now) s c.args.number c.args.key.now c.items.result.now c.in_ok-first_held.field-0 (Some c.in_ok-child_refusal_at-in-Some.field-0) c.requires.sound c.requires.may are c.in_ok-first_held.ensures.answer
+    (ap Some c.in_ok-child_refusal_at-in-Some.ensures ∙ ap (option_map (child_refusal_at c.args.number c.args.tables.now)) (sym c.in-Some.is))

@@ -52,3 +52,21 @@ returns-in-Ok-plan_update-clause-can g c = rw c.in-Update.is c.in-Ok-plan_update
 
 pub returns-in-Ok-plan_update-clause-thin : goal.returns-in-Ok-plan_update-clause-thin
 returns-in-Ok-plan_update-clause-thin g c = rw c.in-Update.is c.in-Ok-plan_update.ensures.thin
+
+pub returns-in-Err-clause-rounds : goal.returns-in-Err-clause-rounds
+returns-in-Err-clause-rounds g c = rw c.in-Insert.is c.plan_insert.ensures.rounds
+
+pub returns-in-Ok-clause-rounds : goal.returns-in-Ok-clause-rounds
+returns-in-Ok-clause-rounds g c = rw c.in-Insert.is c.plan_insert.ensures.rounds
+
+pub returns-in-Err-plan_update-clause-rounds : goal.returns-in-Err-plan_update-clause-rounds
+returns-in-Err-plan_update-clause-rounds g c = rw c.in-Update.is c.plan_update.ensures.rounds
+
+pub returns-in-Ok-plan_update-clause-rounds : goal.returns-in-Ok-plan_update-clause-rounds
+returns-in-Ok-plan_update-clause-rounds g c = rw c.in-Update.is c.plan_update.ensures.rounds
+
+pub returns-in-Err-plan_delete-clause-rounds : goal.returns-in-Err-plan_delete-clause-rounds
+returns-in-Err-plan_delete-clause-rounds g c = rw c.in-Delete.is c.plan_delete.ensures.rounds
+
+pub returns-in-Ok-plan_delete-clause-rounds : goal.returns-in-Ok-plan_delete-clause-rounds
+returns-in-Ok-plan_delete-clause-rounds g c = rw c.in-Delete.is c.plan_delete.ensures.rounds

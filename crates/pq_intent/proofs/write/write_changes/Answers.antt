@@ -24,6 +24,7 @@ loop-change-preserved g c =
         entries = omega arith;
       };
       each = omega arith;
+      rounds = omega (arith, c.write_change.ensures.rounds);
       later = omega (arith, c.write_change.ensures.cause.later);
     }
 

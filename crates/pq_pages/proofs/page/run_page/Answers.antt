@@ -1,7 +1,11 @@
-use Rattle.std.proofs.Common.{◌≡◌, length, option_copied, refl, arith}
+use Rattle.std.proofs.Common.{◌≡◌, length, option_copied, refl, subst, arith}
 use Rattle.std.specs.Prelude.{IfSome}
+use Rattle.std.specs.List.{AllByRecursion}
 use Rattle.std.proofs.lemmas.Option.{IfSome_then}
+use Rattle.pq_base.specs.Values.{AllFit}
 use Rattle.pq_schema.specs.Schema.{query_at}
+use Rattle.pq_schema.specs.declared.query.Query.{Query}
+use Rattle.pq_nodes.specs.Combos.{selected_types}
 use Rattle.pq_exec.specs.Execution.{AnswersQuery, IsAnswerIn}
 use Rattle.pq_running.specs.Running.{next_cursor}
 use Rattle.pq_pages.proofs.Pages.{within_bound, defined_asked, defined_resolved, defined_plan, answer_page}
@@ -57,3 +61,7 @@ returns-clause-codes g c =
     let next : c.in_ok-next.next ≡ next_cursor tables c.args.number query (length answer.rows) answer.last =
     rw (← c.query-query.ensures) c.in_ok-next.ensures in
     IfSome_then told found (λ content so. record { answer = answer; found = so; rows = refl; next = next })
+
+pub returns-clause-fit : goal.returns-clause-fit
+returns-clause-fit g c =
+    subst (λ (q : Query). AllByRecursion (AllFit (selected_types c.args.catalog.now.tables q)) c.in_ok-answer.answer.rows) c.query-query.ensures c.in_ok-answer.ensures.page.fit

@@ -1,13 +1,14 @@
-use Rattle.std.proofs.Common.{◌≡◌, false, refl, sym, subst, Option}
+use Rattle.std.proofs.Common.{◌≡◌, false, length, refl, sym, subst, Option}
 use Rattle.std.specs.Prelude.{IfSome}
 use Rattle.std.proofs.lemmas.Result.{err_from_is_err_and}
 use Rattle.pq_content.specs.Pairs.{is_of_rows}
 use Rattle.pq_builds.specs.declared.target.NewQuery.{NewQuery}
 use Rattle.pq_builds.specs.declared.build.Built.{Built}
 use Rattle.pq_builds.specs.declared.build.Built.TheVariants.{TooMany}
-use Rattle.pq_builds.specs.Stages.{ShowsBuild, StopsBuilding, TakesBuild}
+use Rattle.pq_builds.specs.Stages.{RanBuild, ShowsBuild, StopsBuilding, TakesBuild}
 use Rattle.pq_builds.proofs.Lasting.{shows_still_told}
 use Rattle.pq_builds.specs.Bounds.{build_bound}
+use Rattle.pq_builds.specs.Filling.{row_pairs_in}
 use Rattle.pq_builds.specs.Standing.{Origin, HoldsOrigin, Leaves, Makes, rows_in}
 use Rattle.pq_intent.specs.Spending.{TakesAtMost}
 use Rattle.pq_store.specs.Breaks.{IsUndamaged}
@@ -53,7 +54,8 @@ returns-in_err-build_index-clause-broken g c =
     (moved (λ t q. (origin : Origin) → HoldsOrigin origin t q old → IsUndamaged broke) index query e.sound)
     (moved (λ t q. IfSome old (λ content. StopsBuilding t q content now)) index query e.ended)
     (shows old e.shown) (shows now lasting) e.within
-    (moved (λ t q. (origin : Origin) → HoldsOrigin origin t q old → TakesAtMost (build_bound (rows_in origin t)) c.args.meter.now c.build_index.new.meter) index query e.bounded))
+    (moved (λ t q. (origin : Origin) → HoldsOrigin origin t q old → TakesAtMost (build_bound (rows_in origin t)) c.args.meter.now c.build_index.new.meter) index query e.bounded)
+    (moved (λ t q. IfSome old (λ content. TakesAtMost (build_bound (length (row_pairs_in t.table content))) c.args.meter.now c.build_index.new.meter)) index query e.within_own))
 
 pub too_many_rows-requires : goal.too_many_rows-requires
 too_many_rows-requires g c = (target_there c.args.planned.now c.args.query.now c.args.new.now c.known.ensures c.requires).0
@@ -64,6 +66,9 @@ returns-in_err-too_many_rows-in-TooMany-clause-broken g c =
     let e = c.in_ok-build_index.ensures in
     let made : (origin : Origin) → HoldsOrigin origin c.in_ok-target.target c.in_ok-defined.defined (g.S.Store.content c.args.store.now) → Makes origin c.in_ok-target.target c.in_ok-defined.defined TooMany (g.S.Store.content c.build_index.new.store) =
     subst (λ (b : Built). (origin : Origin) → HoldsOrigin origin c.in_ok-target.target c.in_ok-defined.defined (g.S.Store.content c.args.store.now) → Makes origin c.in_ok-target.target c.in_ok-defined.defined b (g.S.Store.content c.build_index.new.store)) c.in-TooMany.is e.made in
+    let ran : IfSome (g.S.Store.content c.args.store.now) (λ content. RanBuild c.in_ok-target.target c.in_ok-defined.defined TooMany content (g.S.Store.content c.build_index.new.store)) =
+    subst (λ (b : Built). IfSome (g.S.Store.content c.args.store.now) (λ content. RanBuild c.in_ok-target.target c.in_ok-defined.defined b content (g.S.Store.content c.build_index.new.store))) c.in-TooMany.is e.ran in
     rw (p.1, p.2) (λ number best. too_many_lost number c.args.query.now c.args.new.now best c.args.planned.now c.requires _ _ _ _
     (moved (λ t q. (origin : Origin) → HoldsOrigin origin t q (g.S.Store.content c.args.store.now) → Makes origin t q TooMany (g.S.Store.content c.build_index.new.store)) c.in_ok-target.ensures c.in_ok-defined.ensures made)
-    (e.unchanged c.in-TooMany.is) (subst (λ (b : Built). TakesBuild b c.args.meter.now c.build_index.new.meter) c.in-TooMany.is e.takes))
+    (e.unchanged c.in-TooMany.is) (subst (λ (b : Built). TakesBuild b c.args.meter.now c.build_index.new.meter) c.in-TooMany.is e.takes)
+    (moved (λ t q. IfSome (g.S.Store.content c.args.store.now) (λ content. RanBuild t q TooMany content (g.S.Store.content c.build_index.new.store))) c.in_ok-target.ensures c.in_ok-defined.ensures ran))

@@ -19,7 +19,7 @@ returns-in-Ok-statement g c =
     let e = c.in-Ok-statement.ensures in
     record {
       ok = made_over c.args.number c.args.piece.now c.args.session _ _ _ _ c.in-Ok-statement.made.0 c.in-Ok-statement.made.1 e.number e.bound e.few_ops e.few_entries e.next e.matches e.made e.ops e.entries
-          e.unread e.can e.refused e.reads e.arranged c.args.form some;
+          e.unread e.can e.refused e.reads e.arranged e.tells e.kind e.bare c.args.form some;
       err = tt;
       unmoved = λ check. absurd (subst HasOpening check some);
       causes = search rules;
@@ -34,7 +34,7 @@ returns-in-Err-statement g c =
     let e = c.in-Err-statement.ensures in
     rw c.of.ensures (record {
       ok = tt;
-      err = broke_over c.args.number c.args.piece.now c.args.session _ _ _ _ c.args.form c.in-Err-statement.broke some e.stopped e.damage e.building e.lasting e.within_own e.kept
+      err = broke_over c.args.number c.args.piece.now c.args.session _ _ _ _ c.args.form c.in-Err-statement.broke some e.stopped e.damage e.building e.lasting e.within_own e.kept e.left
           e.answered;
       unmoved = λ check. absurd (subst HasOpening check some);
       causes = search rules;

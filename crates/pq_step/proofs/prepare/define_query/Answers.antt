@@ -1,13 +1,17 @@
-use Rattle.std.proofs.Common.{◌≡◌, Some, None, sym, ◌∙◌, subst}
+use Rattle.std.proofs.Common.{◌≡◌, arith, Option, Some, None, sym, ◌∙◌, subst}
+use Rattle.std.proofs.lemmas.Option.{none-some}
 use Rattle.std.proofs.lemmas.Result.{err_from_is_err_and}
 use Rattle.pq_plan.specs.Cost.{cost}
 use Rattle.pq_schema.specs.Schema.{Schema}
+use Rattle.pq_schema.specs.declared.table.NewIndex.{NewIndex}
 use Rattle.pq_planning.specs.Lines.{planned_lines}
 use Rattle.pq_planning.specs.Planned.{IsComputed}
 use Rattle.pq_reports.proofs.Planned.{computed_defined, planned_promise, lines_are}
 use Rattle.pq_catalog.proofs.Kept.{computed_wanting}
 use Rattle.pq_reports.proofs.Promises.{broken_same}
 use Rattle.pq_planning.proofs.Shown.{is_lined}
+use Rattle.pq_step.specs.Rounds.{AsksPrepared}
+use Rattle.pq_step.proofs.Asking.{prepared_unasked}
 use Rattle.pq_step.proofs.prepare.define_query.Goals as goal
 
 pub planned_lines-requires : goal.planned_lines-requires
@@ -43,3 +47,15 @@ write_query-requires-clause-compiled g c = computed_wanting c.args.planned.table
 
 pub build_query-requires-clause-compiled : goal.build_query-requires-clause-compiled
 build_query-requires-clause-compiled g c = computed_wanting c.args.planned.tables c.args.plan (Some c.in-Some.new) c.in-Some.is c.requires.computed_is
+
+pub returns-in_err-lines-clause-rounds : goal.returns-in_err-lines-clause-rounds
+returns-in_err-lines-clause-rounds g c = prepared_unasked c.args.plan.compiled.wanted (g.S.Store.rounds c.args.store.now) (g.S.Store.rounds c.args.store.now) (omega arith)
+
+pub returns-in-None-clause-rounds : goal.returns-in-None-clause-rounds
+returns-in-None-clause-rounds g c = subst (λ (w : Option NewIndex). AsksPrepared w (g.S.Store.rounds c.args.store.now) (g.S.Store.rounds c.write_query.new.store)) (sym c.in-None.is) c.write_query.ensures.rounds
+
+pub returns-in-Some-clause-rounds : goal.returns-in-Some-clause-rounds
+returns-in-Some-clause-rounds g c = subst (λ (w : Option NewIndex). AsksPrepared w (g.S.Store.rounds c.args.store.now) (g.S.Store.rounds c.build_query.new.store)) (sym c.in-Some.is) tt
+
+pub returns-in-Some-clause-unbuilt : goal.returns-in-Some-clause-unbuilt
+returns-in-Some-clause-unbuilt g c = λ none. absurd (none-some c.in-Some.new (sym none ∙ c.in-Some.is))

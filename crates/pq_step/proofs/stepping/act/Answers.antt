@@ -1,11 +1,17 @@
-use Rattle.std.proofs.Common.{ap, ◌∙◌, subst, refl}
+use Rattle.std.proofs.Common.{[], ap, arith, ◌∙◌, Option, subst, sym, refl}
 use Rattle.std.proofs.lemmas.Result.{err_from_is_err_and}
+use Rattle.pq_schema.specs.Definitions.{new_column, new_counter, new_table}
+use Rattle.pq_schema.specs.declared.query.Query.{Query}
+use Rattle.pq_schema.specs.declared.table.NewIndex.{NewIndex}
 use Rattle.pq_statement.specs.Actions.{Runs, action_from}
 use Rattle.pq_statement.specs.Requests.{Asks}
 use Rattle.pq_statement.specs.declared.requests.Request.{Request}
 use Rattle.pq_reports.proofs.Planned.{explained_lines}
 use Rattle.pq_reports.proofs.Promises.{broken_same, explained_done, misread_done, shown_done}
-use Rattle.pq_step.proofs.Answering.{answered_but, answered_for, batch_answered}
+use Rattle.pq_step.specs.Rounds.{AsksPrepared, AsksQuery}
+use Rattle.pq_step.specs.Unbuilt.{MakesNoIndex}
+use Rattle.pq_step.proofs.Answering.{answered_but, answered_for, answered_plain, batch_answered}
+use Rattle.pq_step.proofs.Asking.{added_asked, counted_asked, created_asked, unasked}
 use Rattle.pq_step.proofs.stepping.act.Goals as goal
 
 pub create-requires : goal.create-requires
@@ -146,3 +152,94 @@ pub returns-in-Misread-clause-step : goal.returns-in-Misread-clause-step
 returns-in-Misread-clause-step g c asked asks =
     let a = subst (λ (r : Request). Asks c.args.planned r asked) c.in-Misread.is asks in
     rw (a, c.misread_report.ensures) (misread_done c.args.number c.in-Misread.place c.in-Misread.cause _ c.args.planned _)
+
+pub returns-in-Create-clause-unbuilt : goal.returns-in-Create-clause-unbuilt
+returns-in-Create-clause-unbuilt g c asked asks none = answered_plain c.args.planned g.S.Store.answers asked [] c.create.result c.create.ensures.answered
+
+pub returns-in-Alter-clause-unbuilt : goal.returns-in-Alter-clause-unbuilt
+returns-in-Alter-clause-unbuilt g c asked asks none = answered_plain c.args.planned g.S.Store.answers asked [] c.add_column.result c.add_column.ensures.answered
+
+pub returns-in-Write-clause-unbuilt : goal.returns-in-Write-clause-unbuilt
+returns-in-Write-clause-unbuilt g c asked asks none = answered_plain c.args.planned g.S.Store.answers asked [] c.make_write.result c.make_write.ensures.answered
+
+pub returns-in-Run-clause-unbuilt : goal.returns-in-Run-clause-unbuilt
+returns-in-Run-clause-unbuilt g c asked asks none = answered_plain c.args.planned g.S.Store.answers asked [] c.run_query.result c.run_query.ensures.answered
+
+pub returns-in-Count-clause-unbuilt : goal.returns-in-Count-clause-unbuilt
+returns-in-Count-clause-unbuilt g c asked asks none = answered_plain c.args.planned g.S.Store.answers asked [] c.create_counter.result c.create_counter.ensures.answered
+
+pub returns-in-Read-clause-unbuilt : goal.returns-in-Read-clause-unbuilt
+returns-in-Read-clause-unbuilt g c asked asks none = answered_plain c.args.planned g.S.Store.answers asked [] c.read_count.result c.read_count.ensures.answered
+
+pub returns-in-Select-clause-unbuilt : goal.returns-in-Select-clause-unbuilt
+returns-in-Select-clause-unbuilt g c asked asks none = answered_plain c.args.planned g.S.Store.answers asked [] c.select_query.result c.select_query.ensures.answered
+
+pub returns-in-Prepare-clause-unbuilt : goal.returns-in-Prepare-clause-unbuilt
+returns-in-Prepare-clause-unbuilt g c asked asks none =
+    let a = subst (λ (r : Request). Asks c.args.planned r asked) c.in-Prepare.is asks in
+    answered_plain c.args.planned g.S.Store.answers asked [] c.define_query.result (c.define_query.ensures.unbuilt (sym a.1.plan_is.wanted ∙ subst MakesNoIndex a.1.asks none))
+
+pub returns-in-Batch-clause-unbuilt : goal.returns-in-Batch-clause-unbuilt
+returns-in-Batch-clause-unbuilt g c asked asks none =
+    let a = subst (λ (r : Request). Asks c.args.planned r asked) c.in-Batch.is asks in
+    rw a.1 c.make_batch.ensures.answered
+
+pub returns-in_err-report-in-Explain-clause-rounds : goal.returns-in_err-report-in-Explain-clause-rounds
+returns-in_err-report-in-Explain-clause-rounds g c asked asks = unasked c.args.planned (g.S.Store.rounds c.args.store.now) (g.S.Store.rounds c.args.store.now) asked (omega arith)
+
+pub returns-in_ok-report-in-Explain-clause-rounds : goal.returns-in_ok-report-in-Explain-clause-rounds
+returns-in_ok-report-in-Explain-clause-rounds g c asked asks = unasked c.args.planned (g.S.Store.rounds c.args.store.now) (g.S.Store.rounds c.args.store.now) asked (omega arith)
+
+pub returns-in_err-show-in-Show-clause-rounds : goal.returns-in_err-show-in-Show-clause-rounds
+returns-in_err-show-in-Show-clause-rounds g c asked asks = unasked c.args.planned (g.S.Store.rounds c.args.store.now) (g.S.Store.rounds c.args.store.now) asked (omega arith)
+
+pub returns-in_ok-show-in-Show-clause-rounds : goal.returns-in_ok-show-in-Show-clause-rounds
+returns-in_ok-show-in-Show-clause-rounds g c asked asks = unasked c.args.planned (g.S.Store.rounds c.args.store.now) (g.S.Store.rounds c.args.store.now) asked (omega arith)
+
+pub returns-in-Misread-clause-rounds : goal.returns-in-Misread-clause-rounds
+returns-in-Misread-clause-rounds g c asked asks = unasked c.args.planned (g.S.Store.rounds c.args.store.now) (g.S.Store.rounds c.args.store.now) asked (omega arith)
+
+pub returns-in-Create-clause-rounds : goal.returns-in-Create-clause-rounds
+returns-in-Create-clause-rounds g c asked asks =
+    let a = subst (λ (r : Request). Asks c.args.planned r asked) c.in-Create.is asks in
+    rw a.1 (created_asked c.args.planned _ _ (new_table c.args.planned c.in-Create.def) c.create.ensures.rounds)
+
+pub returns-in-Alter-clause-rounds : goal.returns-in-Alter-clause-rounds
+returns-in-Alter-clause-rounds g c asked asks =
+    let a = subst (λ (r : Request). Asks c.args.planned r asked) c.in-Alter.is asks in
+    rw a.1 (added_asked c.args.planned _ _ c.in-Alter.def (new_column c.args.planned c.in-Alter.def) c.add_column.ensures.rounds)
+
+pub returns-in-Count-clause-rounds : goal.returns-in-Count-clause-rounds
+returns-in-Count-clause-rounds g c asked asks =
+    let a = subst (λ (r : Request). Asks c.args.planned r asked) c.in-Count.is asks in
+    rw a.1 (counted_asked c.args.planned _ _ c.in-Count.def (new_counter c.args.planned c.in-Count.def) c.create_counter.ensures.rounds)
+
+pub returns-in-Run-clause-rounds : goal.returns-in-Run-clause-rounds
+returns-in-Run-clause-rounds g c asked asks =
+    let a = subst (λ (r : Request). Asks c.args.planned r asked) c.in-Run.is asks in
+    rw (a.2 ∙ ap (action_from Runs) a.1.is) c.run_query.ensures.rounds
+
+pub returns-in-Read-clause-rounds : goal.returns-in-Read-clause-rounds
+returns-in-Read-clause-rounds g c asked asks =
+    let a = subst (λ (r : Request). Asks c.args.planned r asked) c.in-Read.is asks in
+    rw a.1 c.read_count.ensures.rounds
+
+pub returns-in-Prepare-clause-rounds : goal.returns-in-Prepare-clause-rounds
+returns-in-Prepare-clause-rounds g c asked asks =
+    let a = subst (λ (r : Request). Asks c.args.planned r asked) c.in-Prepare.is asks in
+    rw a.1.asks (subst (λ (w : Option NewIndex). AsksPrepared w (g.S.Store.rounds c.args.store.now) (g.S.Store.rounds c.define_query.new.store)) (sym a.1.plan_is.wanted) c.define_query.ensures.rounds)
+
+pub returns-in-Select-clause-rounds : goal.returns-in-Select-clause-rounds
+returns-in-Select-clause-rounds g c asked asks =
+    let a = subst (λ (r : Request). Asks c.args.planned r asked) c.in-Select.is asks in
+    rw a.2.asks (subst (λ (q : Query). AsksQuery c.args.planned.tables q (g.S.Store.rounds c.args.store.now) (g.S.Store.rounds c.select_query.new.store)) (sym a.2.plan_is.query) c.select_query.ensures.rounds)
+
+pub returns-in-Write-clause-rounds : goal.returns-in-Write-clause-rounds
+returns-in-Write-clause-rounds g c asked asks =
+    let a = subst (λ (r : Request). Asks c.args.planned r asked) c.in-Write.is asks in
+    rw a.1 c.make_write.ensures.rounds
+
+pub returns-in-Batch-clause-rounds : goal.returns-in-Batch-clause-rounds
+returns-in-Batch-clause-rounds g c asked asks =
+    let a = subst (λ (r : Request). Asks c.args.planned r asked) c.in-Batch.is asks in
+    rw a.1 c.make_batch.ensures.rounds

@@ -1,4 +1,4 @@
-use Rattle.pq_reports.proofs.Promises.{promised_can, promised_kept, promised_memory, promised_own, promised_reads, promised_made, promised_matches, promised_next, promised_shown, promised_lasting, promised_stopped, promised_unread, promised_within}
+use Rattle.pq_reports.proofs.Promises.{promised_bare, promised_can, promised_kind, promised_left, promised_rows, promised_tells, promised_kept, promised_memory, promised_own, promised_reads, promised_made, promised_matches, promised_next, promised_shown, promised_lasting, promised_stopped, promised_unread, promised_within}
 use Rattle.pq_check.proofs.Written.{promised_as}
 use Rattle.pq_step.proofs.stepping.statement.Goals as goal
 
@@ -44,3 +44,18 @@ returns-clause-reads g c = promised_reads c.args.number c.args.piece.now _ _ c.a
 
 pub returns-clause-memory : goal.returns-clause-memory
 returns-clause-memory g c = promised_memory c.args.number c.args.piece.now _ _ c.args.planned _ _ c.make_piece.result c.make_piece.ensures.step
+
+pub returns-clause-tells : goal.returns-clause-tells
+returns-clause-tells g c = promised_tells c.args.number c.args.piece.now _ _ c.args.planned _ _ c.make_piece.result c.make_piece.ensures.step
+
+pub returns-clause-kind : goal.returns-clause-kind
+returns-clause-kind g c = promised_kind c.args.number c.args.piece.now _ _ c.args.planned _ _ c.make_piece.result c.make_piece.ensures.step
+
+pub returns-clause-bare : goal.returns-clause-bare
+returns-clause-bare g c = promised_bare c.args.number c.args.piece.now _ _ c.args.planned _ _ c.make_piece.result c.make_piece.ensures.step
+
+pub returns-clause-left : goal.returns-clause-left
+returns-clause-left g c = promised_left c.args.number c.args.piece.now _ _ c.args.planned _ _ c.make_piece.result c.make_piece.ensures.step
+
+pub returns-clause-within_rows : goal.returns-clause-within_rows
+returns-clause-within_rows g c = promised_rows c.args.number c.args.piece.now _ _ c.args.planned _ _ c.make_piece.result c.make_piece.ensures.step

@@ -23,4 +23,4 @@ returns-in_err-report-clause-step g c =
 pub returns-clause-step : goal.returns-clause-step
 returns-clause-step g c =
     rw (c.in_ok-report.ensures, c.used.ensures, ← c.catalog.ensures) (read_done c.args.number (reading_asked c.args.read.now) c.catalog.result.now _ _ _ _ _ _ _ _ c.in_ok-count.count
-    c.grant-allowance.ensures c.in_ok-count.ensures.reads c.in_ok-count.ensures.answer)
+    c.grant-allowance.ensures c.in_ok-count.ensures.reads c.in_ok-count.ensures.answer c.in_ok-count.ensures.few c.in_ok-count.ensures.stored)

@@ -1,7 +1,7 @@
 use Rattle.pq_calls.specs.World.{where_told}
 use Rattle.pq_counters.specs.Evidence.{ShowsCounted}
 use Rattle.pq_counters.proofs.Joining.{left_for_changes}
-use Rattle.pq_write.proofs.Alone.{alone_answer, alone_answered, alone_cause, alone_reads, alone_share, alone_undamaged, few_ahead}
+use Rattle.pq_write.proofs.Alone.{alone_answer, alone_answered, alone_asks, alone_cause, alone_own, alone_reads, alone_share, alone_undamaged, few_ahead}
 use Rattle.pq_write.proofs.write.plan_alone.Goals as goal
 
 pub plan_whole-requires-clause-few : goal.plan_whole-requires-clause-few
@@ -28,3 +28,9 @@ returns-clause-undamaged g c = alone_undamaged c.none-pending.result c.none-pend
 
 pub returns-clause-answer : goal.returns-clause-answer
 returns-clause-answer g c = alone_answer c.none-pending.result c.none-pending.ensures c.args.catalog.now c.args.write.now _ c.plan_whole.result c.plan_whole.ensures.answer
+
+pub returns-clause-own : goal.returns-clause-own
+returns-clause-own g c = alone_own c.none-pending.result c.none-pending.ensures c.args.catalog.now c.args.write.now _ c.plan_whole.result c.plan_whole.ensures.own
+
+pub returns-clause-rounds : goal.returns-clause-rounds
+returns-clause-rounds g c = alone_asks c.none-pending.result c.none-pending.ensures c.args.catalog.now c.args.write.now _ _ c.plan_whole.ensures.rounds

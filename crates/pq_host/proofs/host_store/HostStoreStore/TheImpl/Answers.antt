@@ -1,4 +1,4 @@
-use Rattle.std.proofs.Common.{refl, inl, None}
+use Rattle.std.proofs.Common.{lit≤, refl, inl, None}
 use Rattle.std.proofs.lemmas.Slice.Zip.{AllZip-long}
 use Rattle.pq_store.specs.Rounds.{IsValueAnswered, IsValueOf, IsPartAsked, ArePairsOf}
 use Rattle.pq_host.specs.Ends.{any_answer}
@@ -6,13 +6,13 @@ use Rattle.pq_host.proofs.Untold.{anyway, done_anyway, each_anyway, if_ok, zip_a
 use Rattle.pq_host.proofs.host_store.HostStoreStore.TheImpl.Goals as goal
 
 pub get-tells : goal.get-tells
-get-tells g c = record { answer = anyway c.result tt; answered = anyway c.result tt; same = refl; cause = c.ensures.cause; meter = c.ensures.meter }
+get-tells g c = record { answer = anyway c.result tt; answered = anyway c.result tt; same = refl; cause = c.ensures.cause; round = lit≤ tt; meter = c.ensures.meter }
 
 pub range-tells : goal.range-tells
-range-tells g c = record { answer = anyway c.result tt; part = c.ensures.part; answered = each_anyway c.result; same = refl; cause = c.ensures.cause; meter = c.ensures.meter }
+range-tells g c = record { answer = anyway c.result tt; part = c.ensures.part; answered = each_anyway c.result; same = refl; cause = c.ensures.cause; round = lit≤ tt; meter = c.ensures.meter }
 
 pub count-tells : goal.count-tells
-count-tells g c = record { answer = anyway c.result tt; few = c.ensures.few; same = refl; cause = c.ensures.cause; meter = c.ensures.meter }
+count-tells g c = record { answer = anyway c.result tt; few = c.ensures.few; same = refl; cause = c.ensures.cause; round = lit≤ tt; meter = c.ensures.meter }
 
 pub write-tells : goal.write-tells
 write-tells g c = record {
@@ -22,6 +22,7 @@ write-tells g c = record {
   no_memory = λ _. refl;
   failed = λ _. inl refl;
   cause = c.ensures.cause;
+  round = lit≤ tt;
   meter = c.ensures.meter;
 }
 
@@ -32,6 +33,7 @@ gets-tells g c = record {
   answered = c.ensures.answered;
   same = refl;
   cause = c.ensures.cause;
+  round = lit≤ tt;
   paid = c.ensures.paid;
   counted = c.ensures.counted;
 }
@@ -44,6 +46,7 @@ ranges-tells g c = record {
   answered = if_ok _ _ (λ found h. parts_answered any_answer (λ key value. tt) found) c.result c.ensures.parts;
   same = refl;
   cause = c.ensures.cause;
+  round = lit≤ tt;
   paid = c.ensures.paid;
   counted = c.ensures.counted;
 }
@@ -54,6 +57,7 @@ first_held-tells g c = record {
   within = c.ensures.within;
   same = refl;
   cause = c.ensures.cause;
+  round = lit≤ tt;
   paid = c.ensures.paid;
   counted = c.ensures.counted;
 }
