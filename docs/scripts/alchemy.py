@@ -10,16 +10,16 @@ TABLE = "CREATE TABLE users (name TEXT(20), town TEXT(30) NULL, PRIMARY KEY (nam
 
 
 def move(engine, name, town):
-    """One write is a transaction: it is made at the end of the block, and not at all where the block raises."""
+    """A transaction: its write is made at the end of the block, and not at all where the block raises."""
     with engine.begin() as connection:
         connection.execute(users.update().where(users.c.name == name).values(town=town))
 
 
-def move_both(engine, first, second):
-    """Two writes are none: the second one is refused, and the first one isn't made either."""
+def move_all(engine, names, town):
+    """Several writes are made as one: all of them, or none."""
     with engine.begin() as connection:
-        connection.execute(users.update().where(users.c.name == first).values(town="oslo"))
-        connection.execute(users.update().where(users.c.name == second).values(town="oslo"))
+        for name in names:
+            connection.execute(users.update().where(users.c.name == name).values(town=town))
 
 
 def town_of(engine, name):
@@ -35,11 +35,12 @@ def main(file):
         connection.execute(users.insert(), [{"name": "ann", "town": "rome"}, {"name": "bob", "town": None}])
         print(connection.execute(select(users).where(users.c.town == "rome")).all())
     try:
-        move_both(engine, "ann", "bob")
-    except exc.NotSupportedError as error:
-        print(str(error.orig).partition(":")[0])
+        move_all(engine, ["ann", "nobody"], "lima")
+    except exc.IntegrityError as error:
+        print(error.orig.number, error.orig.place)
     print(town_of(engine, "ann"))
     move(engine, "ann", "oslo")
+    move_all(engine, ["ann", "bob"], "pisa")
     print(town_of(engine, "ann"))
     try:
         with engine.connect() as connection:
