@@ -21,7 +21,7 @@ use Rattle.pq_index_keep.proofs.Inserting.{each_by, each_is}
 use Rattle.pq_index_keep.proofs.Narrow.{valid_writable}
 use Rattle.pq_index_keep.specs.Bounds.{most_changes, tests_behind}
 use Rattle.pq_index_keep.specs.Effects.{effect, changes_of}
-use Rattle.pq_index_keep.specs.Promises.{ArePlanned, MakesRows, Plans, IsReadFor, FitsItsTable, HasOwn}
+use Rattle.pq_index_keep.specs.Promises.{ArePlanned, MakesRows, Plans, IsReadFor, PassesTests, FitsItsTable, HasOwn}
 use Rattle.pq_index_keep.specs.Sound.{IsWrite}
 use Rattle.pq_index_keep.specs.declared.plan.Planned.{Planned}
 use Rattle.pq_index_keep.specs.declared.plan.Planned.TheVariants as planned
@@ -80,14 +80,15 @@ are_whole schema w changes more all v may p c is = subst (AreWhole (whole_change
 
 -- ---- the changes of the row that was read, and those of counters
 
-pub has_whole : (schema : Schema) (told : Option Content) (w : Write) (old : Option (List Value)) (changes more all : List Coded) → IfSome told (λ content. IsReadFor schema.tables w content old) → FitsItsTable schema.tables w old → HasOwn schema.tables w old (map change_of changes) → All IsCounterChange more
+pub has_whole : (schema : Schema) (told : Option Content) (w : Write) (old : Option (List Value)) (changes more all : List Coded) → IfSome told (λ content. IsReadFor schema.tables w content old) → IfSome told (PassesTests schema.tables w old) → FitsItsTable schema.tables w old → HasOwn schema.tables w old (map change_of changes) → All IsCounterChange more
     → CountsBy schema w old told (planned.Changes more) → all ≡ changes ++ more → HasWhole schema told w all
-has_whole schema told w old changes more all read fits own counted counts both = record {
+has_whole schema told w old changes more all read passed fits own counted counts both = record {
   old = old;
   rows = map change_of changes;
   counts = more;
   are = ap (map change_of) both ∙ map-append change_of changes more;
   read = read;
+  passed = passed;
   fits = fits;
   own = own;
   counted = counted;

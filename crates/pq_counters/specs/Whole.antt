@@ -12,7 +12,7 @@ use Rattle.pq_content.specs.Tables.{Rows, Keeps}
 use Rattle.pq_store.specs.Content.{Content}
 use Rattle.pq_index_keep.specs.Bounds.{counted, most_changes, write_tests}
 use Rattle.pq_index_keep.specs.Effects.{changes_of}
-use Rattle.pq_index_keep.specs.Promises.{IsReadFor, FitsItsTable, HasOwn}
+use Rattle.pq_index_keep.specs.Promises.{IsReadFor, PassesTests, FitsItsTable, HasOwn}
 use Rattle.pq_index_keep.specs.Refusals.{CanRefuse}
 use Rattle.pq_index_keep.specs.Rounds.{write_rounds}
 use Rattle.pq_index_keep.specs.Tested.{with_sets}
@@ -84,14 +84,15 @@ CountsBy schema write old told planned = (own : List Change) → HasOwn schema.t
     → IfSome told (λ content. IfChanges (λ changes. MovesCounts content (counters_in schema) (written_table write) old
     (coming write old) (map change_of changes)) planned)
 
--- the changes of the row that is read in a content, where it is told, and behind them those of counters' pairs: each by
--- the number that this content has, whatever it stands for
+-- the changes of the row that is read in a content, where it is told, in which none of the write's tests holds; and
+-- behind them those of counters' pairs: each by the number that this content has, whatever it stands for
 pub record HasWhole (schema : Schema) (told : Option Content) (write : Write) (changes : List Coded) : Type 0 where
   pub old : Option (List Value)
   pub rows : List Change
   pub counts : List Coded
   pub are : map change_of changes ≡ rows ++ map change_of counts
   pub read : IfSome told (λ content. IsReadFor schema.tables write content old)
+  pub passed : IfSome told (PassesTests schema.tables write old)
   pub fits : FitsItsTable schema.tables write old
   pub own : HasOwn schema.tables write old rows
   pub counted : All IsCounterChange counts

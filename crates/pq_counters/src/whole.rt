@@ -8,7 +8,7 @@ ghost use Rattle.pq_calls.specs.World.{world, Affords, Reads, Explains, where_to
 ghost use Rattle.pq_index_keep.specs.Bounds.{most_changes, removers_of};
 ghost use Rattle.pq_index_keep.specs.Effects.{effect};
 ghost use Rattle.pq_pending.specs.Pending.{seen_content, seen_answers, RemovesAtMost};
-ghost use Rattle.pq_index_keep.specs.Promises.{ArePlanned, MakesRows, IsReadFor, FitsItsTable, HasOwn, IsNewFor, IsShortChange, IsShortWithin, RemovesFew};
+ghost use Rattle.pq_index_keep.specs.Promises.{ArePlanned, MakesRows, IsReadFor, PassesTests, FitsItsTable, HasOwn, IsNewFor, IsShortChange, IsShortWithin, RemovesFew};
 ghost use Rattle.pq_index_keep.specs.Sound.{IsWrite};
 ghost use Rattle.pq_tallies.specs.Counters.{counter_pairs, HoldsCounted};
 ghost use Rattle.pq_tallies.specs.Defined.{counters_in};
@@ -57,6 +57,8 @@ fn plan_more<S: Store<L>, L: Ledger>(
     requires thin { RemovesAtMost (removers_of write.now) (map change_of changes) }
     requires read { IfSome (seen_content pending.now.changes (S.content store.old))
         (λ c. IsReadFor catalog.now.tables write.now c old.now) }
+    requires passed { IfSome (seen_content pending.now.changes (S.content store.old))
+        (PassesTests catalog.now.tables write.now old.now) }
     requires fits { FitsItsTable catalog.now.tables write.now old.now }
     requires new { IsNewFor catalog.now.tables write.now old.now new.now }
     requires share { Affords allowance.old (counter_reads (counters_in catalog.now) write.now)
@@ -128,9 +130,9 @@ pub fn plan_whole<S: Store<L>, L: Ledger>(
     ensures undamaged { IfErr result (λ error. (rows : Rows) (others : List Pair)
         → HoldsCounted (seen_content pending.now.changes (S.content store.old)) catalog.now rows others
         → IsUndamaged error) }
-    // Over every store, told or not: the changes are some that an intent can hold, those of the row that was read and
-    // behind them the counters' numbers, one more or one less than what was read, short, and at most one removal of a sequence where the write removes pairs; and
-    // a refusal is one that the write can have.
+    // Over every store, told or not: the changes are some that an intent can hold, those of the row that was read, where
+    // the write's tests pass, and behind them the counters' numbers, one more or one less than what was read; short, and
+    // at most one removal of a sequence where the write removes pairs. And a refusal is one that the write can have.
     ensures plan { IfOk result (IsWholeWithin (whole_changes catalog.now write.now)) }
     ensures own { IfOk result
         (ChangesWhole catalog.now (seen_content pending.now.changes (S.content store.old)) write.now) }

@@ -1,6 +1,6 @@
 -- What the tests of a row, and the place of the first that holds, tell of its refusals.
 use Rattle.std.proofs.Common.{◌≡◌, ◌≤◌, ◌<◌, ◌+◌, ◌-◌, ℕ, suc, Bool, true, false, cond, not, ◌&&◌, List, [], ◌∷◌, ◌++◌, filter, length, map, take, get_or, position, Option, Some, None, inl, inr, refl, sym, ap, subst, ◌∙◌, append_assoc, arith}
-use Rattle.std.specs.Prelude.{All, IfSome, IsSome, is_none, is_some, option_map, nat_lt, if◌then◌else◌}
+use Rattle.std.specs.Prelude.{All, IfSome, IfNone, IsSome, is_none, is_some, option_map, nat_lt, if◌then◌else◌}
 use Rattle.std.specs.FinMap.{get}
 use Rattle.std.specs.List.{AllByRecursion, count_by, sum_by}
 use Rattle.std.proofs.lemmas.Bool.{lt-ltb, le-ltb}
@@ -36,7 +36,8 @@ use Rattle.pq_index_keep.specs.Effects.{stays, is_missing, lacks_parent, no_pare
 use Rattle.pq_index_keep.specs.Promises.{HoldsRows, IsTested}
 use Rattle.pq_index_keep.specs.Refusals.{IsTestRefusal, IsInsertRefusal, IsAskedRefusal}
 use Rattle.pq_index_keep.specs.Rounds.{test_rounds}
-use Rattle.pq_index_keep.specs.Tested.{touches}
+use Rattle.pq_index_keep.specs.Tested.{scope_of, touches, with_sets}
+use Rattle.pq_index_keep.specs.declared.write.SetCol.{SetCol}
 use Rattle.pq_index_keep.specs.declared.write.Scope.{Scope}
 use Rattle.pq_index_keep.specs.declared.write.Scope.TheVariants as scope
 use Rattle.pq_index_keep.proofs.Inserting.{position_inside}
@@ -437,3 +438,26 @@ tests_rounds changes removers thin own tests of old t table row kind are =
       crowded_few changes rs,
       few,
     ))
+
+-- ---- what is told where none holds
+
+pub none_held : (told : Option Content) (asked tests : List Test) (at : Option ℕ) → asked ≡ tests → at ≡ None → IfSome told (λ c. at ≡ position (is_held c) asked) → IfSome told (λ c. position (is_held c) tests ≡ None)
+none_held None asked tests at are none told = tt
+none_held (Some c) asked tests at are none told = subst (λ (ts : List Test). position (is_held c) ts ≡ None) are (sym told ∙ none)
+
+pub where_none : (found : Option Refusal) (P : Type 0) → found ≡ None → IfNone found P → P
+where_none None P is h = h
+where_none (Some why) P is h = absurd (cc)
+
+-- the tests of an UPDATE, by the row that it finds
+
+pub as_asked : (told : Option Content) (tables : List Table) (t : ℕ) (sets : List SetCol) (old : List Value) (of : Scope) (before : Option (List Value)) (table : Table) (new : List Value) → table ≡ table_at tables t → new ≡ with_sets sets old → of ≡ scope_of sets → before ≡ Some old
+    → IfSome told (λ c. position (is_held c) (row_tests of before t table new) ≡ None) → IfSome told (λ c. position (is_held c) (row_tests (scope_of sets) (Some old) t (table_at tables t) (with_sets sets old)) ≡ None)
+as_asked None tables t sets old of before table new is made scope was h = tt
+as_asked (Some c) tables t sets old of before table new is made scope was h =
+    subst (λ (ts : List Test). position (is_held c) ts ≡ None)
+    (ap (λ (o : Scope). row_tests o before t table new) scope
+    ∙ ap (λ (b : Option (List Value)). row_tests (scope_of sets) b t table new) was
+    ∙ ap (λ (tb : Table). row_tests (scope_of sets) (Some old) t tb new) is
+    ∙ ap (row_tests (scope_of sets) (Some old) t (table_at tables t)) made)
+    h

@@ -1,5 +1,5 @@
 -- What the calls of a plan promise, whatever the store tells.
-use Rattle.std.specs.Prelude.{◌≡◌, All, ℕ, ◌≤◌, List, ◌∷◌, map, length, Option, Some, None, is_none, if◌then◌else◌, Err, MatchResult, IfSome}
+use Rattle.std.specs.Prelude.{◌≡◌, All, ℕ, ◌≤◌, List, [], ◌∷◌, map, length, position, Option, Some, None, is_none, if◌then◌else◌, Err, MatchResult, IfSome}
 use Rattle.std.specs.FinMap.{get}
 use Rattle.pq_base.specs.declared.value.Value.{Value}
 use Rattle.pq_base.specs.Values.{AllFit}
@@ -11,15 +11,20 @@ use Rattle.pq_schema.specs.Tables.{table_at}
 use Rattle.pq_content.specs.Pairs.{Pair, Change as Changed, changed_content, content_pairs, entries_from, entry_changes, pairs_of_row, puts, removals}
 pub use Rattle.pq_content.specs.Pairs.{HoldsRows}
 use Rattle.pq_content.specs.Standing.{change_of, AreOfRows}
-use Rattle.pq_content.specs.Tables.{Rows, AllOfKinds, types_of, shape_of, key_types, cells, stored_code, Keeps}
+use Rattle.pq_content.specs.Tables.{Rows, AllOfKinds, types_of, shape_of, key_of, key_types, cells, stored_code, Keeps}
 use Rattle.pq_store.specs.Content.{Content}
 use Rattle.pq_calls.specs.Evidence.{IsRead}
 use Rattle.pq_pending.specs.Pending.{RemovesAtMost}
+use Rattle.pq_store.specs.Rounds.{is_held}
+use Rattle.pq_store.specs.declared.store.Test.{Test}
+use Rattle.pq_store.specs.declared.store.Test.TheVariants.{Has}
+use Rattle.pq_index_keep.specs.Asking.{row_tests, child_tests}
 use Rattle.pq_index_keep.specs.Bounds.{removers_of}
 use Rattle.pq_index_keep.specs.Effects.{effect, changes_of, condition_refusal, held_refusal}
-use Rattle.pq_index_keep.specs.Tested.{with_sets}
+use Rattle.pq_index_keep.specs.Tested.{scope_of, with_sets}
 use Rattle.pq_index_keep.specs.declared.plan.Planned.{Planned}
 use Rattle.pq_index_keep.specs.declared.plan.Planned.TheVariants as planned
+use Rattle.pq_index_keep.specs.declared.write.Scope.TheVariants as scope
 use Rattle.pq_index_keep.specs.declared.write.Write.{Write}
 use Rattle.pq_index_keep.specs.declared.write.Write.TheVariants as write
 
@@ -77,6 +82,25 @@ IsReadFor tables (write.Update t key sets conds) content old =
     IsRead (shape_of (table_at tables t)) (get content (row_key t key)) old
 IsReadFor tables (write.Delete t key conds) content old =
     IsRead (shape_of (table_at tables t)) (get content (row_key t key)) old
+
+-- the tests of a write, by the row that was read for it: of an INSERT that its key is taken, and of an INSERT or an
+-- UPDATE that a row which it names isn't there or a group that it comes into is full; of a DELETE that a row names its own
+abbrev pub asked_tests : List Table → Write → Option (List Value) → List Test
+asked_tests tables (write.Insert t row) old =
+    Has (row_key t (key_of (table_at tables t) row)) ∷ row_tests scope.All None t (table_at tables t) row
+asked_tests tables (write.Update t key sets conds) None = []
+asked_tests tables (write.Update t key sets conds) (Some old) =
+    row_tests (scope_of sets) (Some old) t (table_at tables t) (with_sets sets old)
+asked_tests tables (write.Delete t key conds) old = child_tests t key 1 tables
+
+-- none of them holds in the content
+abbrev pub PassesTests : List Table → Write → Option (List Value) → Content → Type 0
+PassesTests tables write old content = position (is_held content) (asked_tests tables write old) ≡ None
+
+-- what isn't refused passes its tests in what the store tells, whatever that stands for
+abbrev pub IsAllowed : List Table → Write → Option (List Value) → Option Content → Planned → Type 0
+IsAllowed tables write old told (planned.Changes changes) = IfSome told (PassesTests tables write old)
+IsAllowed tables write old told (planned.Refused refusal) = Unit {0}
 
 -- the old row fits its table's columns
 abbrev pub FitsItsTable : List Table → Write → Option (List Value) → Type 0

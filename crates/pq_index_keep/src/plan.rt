@@ -15,7 +15,7 @@ ghost use Rattle.pq_store.specs.Breaks.{IsAnswered};
 ghost use Rattle.pq_pending.specs.Calls.{Uses, Fails, seen, answers_of};
 ghost use Rattle.pq_calls.specs.Evidence.{IsRead, IsNoRow};
 ghost use Rattle.pq_calls.specs.World.{Affords, no_damage, where_told};
-ghost use Rattle.pq_index_keep.specs.Promises.{HoldsRows, Plans, IsPlannedWithin, ChangesFrom, IsShortWithin, RemovesFew, IsReadFor, FitsItsTable, IsNewFor};
+ghost use Rattle.pq_index_keep.specs.Promises.{HoldsRows, Plans, IsPlannedWithin, ChangesFrom, IsShortWithin, RemovesFew, IsReadFor, IsAllowed, FitsItsTable, IsNewFor};
 ghost use Rattle.pq_index_keep.specs.Refusals.{RefusesAs};
 ghost use Rattle.pq_index_keep.specs.Rounds.{test_rounds};
 ghost use Rattle.pq_index_keep.specs.Sound.{AreWritable, IsInsert, IsDelete};
@@ -109,6 +109,8 @@ pub(crate) fn plan_insert<S: Store<L>, L: Ledger>(
     ensures short { IfOk result IsShortWithin }
     ensures thin { IfOk result (RemovesFew (Write.Insert number row.now)) }
     ensures can { IfOk result (RefusesAs catalog.now.tables (Write.Insert number row.now)) }
+    ensures passed { IfOk result
+        (IsAllowed catalog.now.tables (Write.Insert number row.now) None (seen S.content calls.old)) }
     ensures answer { IfOk result (λ planned. (rows : Rows) (others : List Pair)
         → HoldsRows (seen S.content calls.old) catalog.now.tables rows others
         → Plans catalog.now.tables rows others (Write.Insert number row.now) planned) }
@@ -191,6 +193,8 @@ fn plan_removal<S: Store<L>, L: Ledger>(
         → RemovesFew (Write.Delete number key.now conds) planned) }
     ensures can { IfOk result (λ planned. (conds : List Condition)
         → RefusesAs catalog.now.tables (Write.Delete number key.now conds) planned) }
+    ensures passed { IfOk result (λ planned. (conds : List Condition) → IsAllowed catalog.now.tables
+        (Write.Delete number key.now conds) (Some row.now) (seen S.content calls.old) planned) }
     ensures answer { IfOk result (λ planned. (rows : Rows) (others : List Pair)
         → HoldsRows (seen S.content calls.old) catalog.now.tables rows others →
         Some row.now ≡ row_at catalog.now.tables rows number key.now → (conds : List Condition)
@@ -239,6 +243,8 @@ fn plan_held<S: Store<L>, L: Ledger>(
     ensures short { IfOk result IsShortWithin }
     ensures thin { IfOk result (RemovesFew (Write.Delete number key.now conds.now)) }
     ensures can { IfOk result (RefusesAs catalog.now.tables (Write.Delete number key.now conds.now)) }
+    ensures passed { IfOk result (IsAllowed catalog.now.tables (Write.Delete number key.now conds.now)
+        (Some row.now) (seen S.content calls.old)) }
     ensures answer { IfOk result (λ planned. (rows : Rows) (others : List Pair)
         → HoldsRows (seen S.content calls.old) catalog.now.tables rows others →
         Some row.now ≡ row_at catalog.now.tables rows number key.now
@@ -279,6 +285,8 @@ pub(crate) fn plan_delete<S: Store<L>, L: Ledger>(
     ensures thin { IfOk result (λ made. RemovesFew (Write.Delete number key.now conds.now) made.planned) }
     ensures can { IfOk result (λ made.
         RefusesAs catalog.now.tables (Write.Delete number key.now conds.now) made.planned) }
+    ensures passed { IfOk result (λ made. IsAllowed catalog.now.tables
+        (Write.Delete number key.now conds.now) made.old (seen S.content calls.old) made.planned) }
     ensures answer { IfOk result (λ made. (rows : Rows) (others : List Pair)
         → HoldsRows (seen S.content calls.old) catalog.now.tables rows others
         → Plans catalog.now.tables rows others (Write.Delete number key.now conds.now) made.planned) }

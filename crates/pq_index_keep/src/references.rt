@@ -1,11 +1,12 @@
 //! Why a DELETE is refused by the rows that name its row.
-ghost use Rattle.std.specs.Prelude.{◌≡◌, ◌≤◌, ◌<◌, ◌+◌, List, All, length, IfOk, IfErr, IfSome};
+ghost use Rattle.std.specs.Prelude.{◌≡◌, ◌≤◌, ◌<◌, ◌+◌, List, All, length, position, None, IfOk, IfErr, IfSome, IfNone};
 ghost use Rattle.pq_content.specs.Pairs.{Pair};
 ghost use Rattle.pq_content.specs.Tables.{Rows};
-ghost use Rattle.pq_index_keep.specs.Asking.{child_refusal_at};
+ghost use Rattle.pq_index_keep.specs.Asking.{child_tests, child_refusal_at};
 ghost use Rattle.pq_index_keep.specs.Bounds.{referring_count, referring_behind};
 ghost use Rattle.pq_index_keep.specs.Effects.{referenced_refusal, child_refusal};
 ghost use Rattle.pq_store.specs.Breaks.{IsAnswered};
+ghost use Rattle.pq_store.specs.Rounds.{is_held};
 ghost use Rattle.pq_pending.specs.Calls.{Uses, Fails, seen, answers_of};
 ghost use Rattle.pq_calls.specs.World.{Affords, no_damage};
 ghost use Rattle.pq_index_keep.specs.Promises.{HoldsRows};
@@ -78,6 +79,8 @@ pub(crate) fn child_refusal<S: Store<L>, L: Ledger>(
     ensures cause { IfErr result (Fails no_damage S.content S.faults calls.old calls.new) }
     ensures answered { IfErr result (IsAnswered (answers_of S.answers calls.old)) }
     ensures can { IfOk result (λ refusal. IfSome refusal (IsDeleteRefusal tables.now)) }
+    ensures passed { IfOk result (λ refusal. IfNone refusal (IfSome (seen S.content calls.old)
+        (λ c. position (is_held c) (child_tests number key.now 1 tables.now) ≡ None))) }
     ensures answer { IfOk result (λ refusal. (rows : Rows) (others : List Pair)
         → HoldsRows (seen S.content calls.old) tables.now rows others
         → refusal ≡ child_refusal rows number key.now 1 tables.now) }

@@ -1,5 +1,5 @@
 //! Why a write is refused by the rows that are there.
-ghost use Rattle.std.specs.Prelude.{◌≡◌, ◌≤◌, ◌<◌, ◌+◌, ◌-◌, List, [], ◌∷◌, ◌++◌, All, length, IfOk, IfErr, IfSome, IsSome};
+ghost use Rattle.std.specs.Prelude.{◌≡◌, ◌≤◌, ◌<◌, ◌+◌, ◌-◌, List, [], ◌∷◌, ◌++◌, All, length, position, None, IfOk, IfErr, IfSome, IfNone, IsSome};
 ghost use Rattle.std.specs.List.{sum_by};
 ghost use Rattle.pq_base.specs.Answers.{or_else};
 ghost use Rattle.pq_base.specs.Columns.{set_of};
@@ -15,6 +15,7 @@ ghost use Rattle.pq_index_keep.specs.Asking.{asks_parent, asks_room, parent_test
 ghost use Rattle.pq_index_keep.specs.Bounds.{tested_foreign, tested_limits, tested_n_behind, tested_behind, tests};
 ghost use Rattle.pq_index_keep.specs.Effects.{no_parent, no_room, parent_refusal, room_refusal, insert_refusal};
 ghost use Rattle.pq_store.specs.Breaks.{IsAnswered};
+ghost use Rattle.pq_store.specs.Rounds.{is_held};
 ghost use Rattle.pq_pending.specs.Calls.{Uses, Fails, seen, answers_of};
 ghost use Rattle.pq_calls.specs.World.{Affords, no_damage};
 ghost use Rattle.pq_index_keep.specs.Promises.{HoldsRows, IsTested};
@@ -155,6 +156,8 @@ fn first_refusal<S: Store<L>, L: Ledger>(
     ensures cause { IfErr result (Fails no_damage S.content S.faults calls.old calls.new) }
     ensures answered { IfErr result (IsAnswered (answers_of S.answers calls.old)) }
     ensures can { IfOk result (λ refusal. IfSome refusal (IsAskedRefusal own table.now)) }
+    ensures passed { IfOk result (λ refusal. IfNone refusal (IfSome (seen S.content calls.old)
+        (λ c. position (is_held c) (own ++ row_tests scope.now old.now number table.now row.now) ≡ None))) }
     ensures answer { IfOk result (λ refusal. (tables : List Definition) (rows : Rows) (others : List Pair)
         → HoldsRows (seen S.content calls.old) tables rows others → table.now ≡ table_at tables number →
         IsTested tables table.now row.now → refusal
@@ -204,6 +207,8 @@ pub(crate) fn tested_refusal<S: Store<L>, L: Ledger>(
     ensures cause { IfErr result (Fails no_damage S.content S.faults calls.old calls.new) }
     ensures answered { IfErr result (IsAnswered (answers_of S.answers calls.old)) }
     ensures can { IfOk result (λ refusal. IfSome refusal (IsTestRefusal table.now)) }
+    ensures passed { IfOk result (λ refusal. IfNone refusal (IfSome (seen S.content calls.old)
+        (λ c. position (is_held c) (row_tests scope.now old.now number table.now row.now) ≡ None))) }
     ensures answer { IfOk result (λ refusal. (tables : List Definition) (rows : Rows) (others : List Pair)
         → HoldsRows (seen S.content calls.old) tables rows others → table.now ≡ table_at tables number →
         IsTested tables table.now row.now → refusal
@@ -249,6 +254,9 @@ pub(crate) fn insert_refusal<S: Store<L>, L: Ledger>(
     ensures cause { IfErr result (Fails no_damage S.content S.faults calls.old calls.new) }
     ensures answered { IfErr result (IsAnswered (answers_of S.answers calls.old)) }
     ensures can { IfOk result (λ refusal. IfSome refusal (IsInsertRefusal table.now)) }
+    ensures passed { IfOk result (λ refusal. IfNone refusal (IfSome (seen S.content calls.old)
+        (λ c. position (is_held c) (Test.Has (row_key number (key_of table.now row.now))
+        ∷ row_tests Scope.All None number table.now row.now) ≡ None))) }
     ensures answer { IfOk result (λ refusal. (tables : List Definition) (rows : Rows) (others : List Pair)
         → HoldsRows (seen S.content calls.old) tables rows others → table.now ≡ table_at tables number →
         IsTested tables table.now row.now → refusal ≡ insert_refusal tables rows number row.now) }

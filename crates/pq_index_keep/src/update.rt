@@ -1,5 +1,5 @@
 //! What an UPDATE changes.
-ghost use Rattle.std.specs.Prelude.{◌≡◌, ◌≤◌, ◌<◌, ◌+◌, ◌*◌, List, All, Some, None, length, slice_set, nat_lt, IfOk, IfErr, IfSome, IfNone, IsSome};
+ghost use Rattle.std.specs.Prelude.{◌≡◌, ◌≤◌, ◌<◌, ◌+◌, ◌*◌, List, All, Some, None, length, position, slice_set, nat_lt, IfOk, IfErr, IfSome, IfNone, IsSome};
 ghost use Rattle.std.specs.List.{AllByRecursion, count_by, sum_by};
 ghost use Rattle.pq_base.specs.Answers.{or_else};
 ghost use Rattle.pq_base.specs.Columns.{set_of};
@@ -13,13 +13,15 @@ ghost use Rattle.pq_schema.specs.Tables.{table_at};
 ghost use Rattle.pq_schema.specs.declared.table.Table.{Table as Definition};
 ghost use Rattle.pq_content.specs.Pairs.{Pair};
 ghost use Rattle.pq_content.specs.Tables.{Rows, IsTableNumber, key_types, types_of, row_at, stored_code};
+ghost use Rattle.pq_index_keep.specs.Asking.{row_tests};
 ghost use Rattle.pq_index_keep.specs.Bounds.{tested_foreign, tested_limits, tested_n_behind, tested_behind, tests};
 ghost use Rattle.pq_index_keep.specs.Effects.{condition_refusal, sum_refusal, parent_refusal, room_refusal};
 ghost use Rattle.pq_store.specs.Breaks.{IsAnswered};
+ghost use Rattle.pq_store.specs.Rounds.{is_held};
 ghost use Rattle.pq_pending.specs.Calls.{Uses, Fails, seen, answers_of};
 ghost use Rattle.pq_calls.specs.Evidence.{IsNoRow};
 ghost use Rattle.pq_calls.specs.World.{Affords, no_damage, where_told};
-ghost use Rattle.pq_index_keep.specs.Promises.{HoldsRows, IsTested, Plans, IsPlannedWithin, ChangesFrom, IsShortWithin, RemovesFew, IsReadFor, FitsItsTable, IsNewFor};
+ghost use Rattle.pq_index_keep.specs.Promises.{HoldsRows, IsTested, Plans, IsPlannedWithin, ChangesFrom, IsShortWithin, RemovesFew, IsReadFor, IsAllowed, FitsItsTable, IsNewFor};
 ghost use Rattle.pq_index_keep.specs.Refusals.{IsUpdateRefusal, RefusesAs};
 ghost use Rattle.pq_index_keep.specs.Rounds.{test_rounds};
 ghost use Rattle.pq_index_keep.specs.Sound.{AreWritable, IsSet, IsUpdate};
@@ -124,6 +126,8 @@ fn update_refusal<S: Store<L>, L: Ledger>(
     ensures cause { IfErr result (Fails no_damage S.content S.faults calls.old calls.new) }
     ensures answered { IfErr result (IsAnswered (answers_of S.answers calls.old)) }
     ensures can { IfOk result (λ refusal. IfSome refusal (IsUpdateRefusal table.now)) }
+    ensures passed { IfOk result (λ refusal. IfNone refusal (IfSome (seen S.content calls.old)
+        (λ c. position (is_held c) (row_tests scope.now old.now number table.now new.now) ≡ None))) }
     ensures short { IfOk result (λ refusal. IfNone refusal (length (stored_code table.now new.now) ≤ 4096)) }
     ensures answer { IfOk result (λ refusal. (tables : List Definition) (rows : Rows) (others : List Pair)
         → HoldsRows (seen S.content calls.old) tables rows others → table.now ≡ table_at tables number →
@@ -190,6 +194,9 @@ fn plan_change<S: Store<L>, L: Ledger>(
         → RemovesFew (Write.Update number key.now sets.now conds) planned) }
     ensures can { IfOk result (λ planned. (conds : List Condition)
         → RefusesAs catalog.now.tables (Write.Update number key.now sets.now conds) planned) }
+    ensures passed { IfOk result (λ planned. (conds : List Condition)
+        → IsAllowed catalog.now.tables (Write.Update number key.now sets.now conds) (Some row.now)
+        (seen S.content calls.old) planned) }
     ensures answer { IfOk result (λ planned. (rows : Rows) (others : List Pair)
         → HoldsRows (seen S.content calls.old) catalog.now.tables rows others →
         Some row.now ≡ row_at catalog.now.tables rows number key.now → (conds : List Condition)
@@ -253,6 +260,8 @@ fn plan_held<S: Store<L>, L: Ledger>(
     ensures thin { IfOk result (λ made. RemovesFew (Write.Update number key.now sets.now conds.now) made.0) }
     ensures can { IfOk result (λ made.
         RefusesAs catalog.now.tables (Write.Update number key.now sets.now conds.now) made.0) }
+    ensures passed { IfOk result (λ made. IsAllowed catalog.now.tables
+        (Write.Update number key.now sets.now conds.now) (Some row.now) (seen S.content calls.old) made.0) }
     ensures answer { IfOk result (λ made. (rows : Rows) (others : List Pair)
         → HoldsRows (seen S.content calls.old) catalog.now.tables rows others →
         Some row.now ≡ row_at catalog.now.tables rows number key.now
@@ -309,6 +318,8 @@ pub(crate) fn plan_update<S: Store<L>, L: Ledger>(
     ensures thin { IfOk result (λ made. RemovesFew (Write.Update number key.now sets.now conds.now) made.planned) }
     ensures can { IfOk result (λ made.
         RefusesAs catalog.now.tables (Write.Update number key.now sets.now conds.now) made.planned) }
+    ensures passed { IfOk result (λ made. IsAllowed catalog.now.tables
+        (Write.Update number key.now sets.now conds.now) made.old (seen S.content calls.old) made.planned) }
     ensures answer { IfOk result (λ made. (rows : Rows) (others : List Pair)
         → HoldsRows (seen S.content calls.old) catalog.now.tables rows others
         → Plans catalog.now.tables rows others (Write.Update number key.now sets.now conds.now) made.planned) }

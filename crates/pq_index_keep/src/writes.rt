@@ -9,7 +9,7 @@ ghost use Rattle.pq_pending.specs.Calls.{Uses, Fails, seen, answers_of};
 ghost use Rattle.pq_pending.specs.Pending.{seen_content, seen_answers};
 ghost use Rattle.pq_calls.specs.Evidence.{IsNoRow};
 ghost use Rattle.pq_calls.specs.World.{world, Affords, Reads, Explains, where_told};
-ghost use Rattle.pq_index_keep.specs.Promises.{HoldsRows, Plans, IsPlannedWithin, ChangesFrom, ChangesOwn, IsShortWithin, RemovesFew, IsReadFor, FitsItsTable, IsNewFor};
+ghost use Rattle.pq_index_keep.specs.Promises.{HoldsRows, Plans, IsPlannedWithin, ChangesFrom, ChangesOwn, IsShortWithin, RemovesFew, IsReadFor, IsAllowed, FitsItsTable, IsNewFor};
 ghost use Rattle.pq_index_keep.specs.Refusals.{RefusesAs};
 ghost use Rattle.pq_index_keep.specs.Rounds.{write_rounds, alone_rounds};
 ghost use Rattle.pq_index_keep.specs.Sound.{AreWritable, IsWrite};
@@ -49,6 +49,8 @@ fn plan_by<S: Store<L>, L: Ledger>(
     ensures short { IfOk result (λ made. IsShortWithin made.planned) }
     ensures thin { IfOk result (λ made. RemovesFew write.now made.planned) }
     ensures can { IfOk result (λ made. RefusesAs catalog.now.tables write.now made.planned) }
+    ensures passed { IfOk result (λ made. IsAllowed catalog.now.tables write.now made.old (seen S.content calls.old)
+        made.planned) }
     ensures answer { IfOk result (λ made. (rows : Rows) (others : List Pair) →
         HoldsRows (seen S.content calls.old) catalog.now.tables rows others
         → Plans catalog.now.tables rows others write.now made.planned) }
@@ -127,6 +129,9 @@ pub fn plan_with_rows<S: Store<L>, L: Ledger>(
     ensures short { IfOk result (λ seen. IsShortWithin seen.planned) }
     ensures thin { IfOk result (λ seen. RemovesFew write.now seen.planned) }
     ensures can { IfOk result (λ seen. RefusesAs catalog.now.tables write.now seen.planned) }
+    // What isn't refused passes its tests, whatever the content that is told stands for.
+    ensures passed { IfOk result (λ seen. IsAllowed catalog.now.tables write.now seen.old
+        (seen_content pending.now.changes (S.content store.old)) seen.planned) }
     ensures answer { IfOk result (λ seen. (rows : Rows) (others : List Pair)
         → HoldsRows (seen_content pending.now.changes (S.content store.old)) catalog.now.tables rows others
         → Plans catalog.now.tables rows others write.now seen.planned) }

@@ -85,7 +85,7 @@ rows_within : (wanted : Option NewIndex) (content : Content) (counts : Counts) �
 rows_within None content counts = tt
 rows_within (Some new) content counts = record { ops = omega arith; entries = omega arith }
 
-none_within : (asked : Result Action Refusal) (content : Content) (counts : Counts) → IsWithinAsked asked content counts counts
+pub none_within : (asked : Result Action Refusal) (content : Content) (counts : Counts) → IsWithinAsked asked content counts counts
 none_within (Err why) content counts = tt
 none_within (Ok (Creates table)) content counts = tt
 none_within (Ok (Adds def)) content counts = tt

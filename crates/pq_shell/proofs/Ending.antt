@@ -80,7 +80,7 @@ rest_made Run read n s content counts = record {
   rises = record { ops = omega arith; entries = omega arith };
   still = λ _. refl;
   passes = λ _. rest_passed n s content;
-  unopened = λ _. refl;
+  unopened = λ _. (refl, refl);
 }
 rest_made Check read n s content counts = record {
   is = record { number_is = refl; bound_is = refl; few_ops = omega arith; few_entries = omega arith; unread_is = refl; can = refl; defined_is = tt };
@@ -90,7 +90,7 @@ rest_made Check read n s content counts = record {
   rises = record { ops = omega arith; entries = omega arith };
   still = λ _. refl;
   passes = λ some. absurd some;
-  unopened = λ _. refl;
+  unopened = λ _. (refl, refl);
 }
 rest_made (Fill k) read n s content counts = absurd read
 

@@ -1,5 +1,5 @@
 -- Items that were made, one after the other, and stops among them.
-use Rattle.std.proofs.Common.{◌≡◌, ℕ, ◌+◌, Bool, true, false, ◌||◌, List, [], ◌∷◌, ◌++◌, length, Option, inl, inr, refl, sym, ap, ◌∙◌, subst, arith, add-zero, append_assoc, append-nil, length-append}
+use Rattle.std.proofs.Common.{◌≡◌, ℕ, ◌+◌, Bool, true, false, ◌||◌, List, [], ◌∷◌, ◌++◌, length, Option, Some, None, inl, inr, refl, sym, ap, ◌∙◌, subst, arith, add-zero, append_assoc, append-nil, length-append}
 use Rattle.std.proofs.lemmas.Grind.{common_steps, flat_map-append}
 use Rattle.std.proofs.lemmas.List.Folds.{list_any-append}
 use Rattle.std.specs.List.{flat_map, sum_by, list_any}
@@ -16,8 +16,9 @@ use Rattle.pq_statement.specs.Actions.{asked_bound}
 use Rattle.pq_catalog.specs.Model.{Model}
 use Rattle.pq_reports.specs.Matches.{Matches}
 use Rattle.pq_reports.specs.Promise.{IsWithinFixed}
-use Rattle.pq_reports.proofs.Promises.{same_left, within_none, within_reported}
-use Rattle.pq_shell.specs.Fold.{Moment, IsReport, Reports, RisesBy, IsWithinItem, IsWithinStep, IsPart, AreStill, KeepsItem, PassesOn, AnswersItem, after, ReportedItems, Halts, MadeReports, ServedItems, ShowsDamage, StoppedItem, schema_behind}
+use Rattle.pq_reports.specs.Making.{IsWithinAsked, LeavesAsked}
+use Rattle.pq_reports.proofs.Promises.{none_within, same_left, within_none, within_reported}
+use Rattle.pq_shell.specs.Fold.{Moment, IsReport, Reports, RisesBy, IsWithinItem, IsWithinStep, IsPart, AreStill, BreaksItem, KeepsItem, PassesOn, AnswersItem, after, ReportedItems, Halts, MadeReports, ServedItems, ShowsDamage, StoppedItem, schema_behind}
 use Rattle.pq_shell.specs.Forms.{StandsIn, OpensAt, asked_item, item_step, shown_report}
 use Rattle.pq_shell.specs.Items.{Item}
 use Rattle.pq_shell.specs.Making.{MakesItem, moment}
@@ -135,9 +136,14 @@ Served-one {report = report} y y' made refusal = record { reports = report ∷ [
 -- ---- stops
 
 -- for want of memory, where nothing was done
-pub kept_same : (s : Schema) (items : List Item) (old now : Option Content) → now ≡ old → KeepsItem stops.NoMem s items old now
-kept_same s [] old now same = same
-kept_same s (x ∷ xs) old now same = inl (same_left s (asked_item s x) old now same)
+same_broken : (s : Schema) (x : Item) (old now : Option Content) (before after : Counts) → now ≡ old → after ≡ before → BreaksItem (λ content. LeavesAsked s (asked_item s x) content now) s x old before after
+same_broken s x None now before after same none = tt
+same_broken s x (Some content) now before after same none =
+    (same_left s (asked_item s x) (Some content) now same, subst (IsWithinAsked (asked_item s x) content before) (sym none) (none_within (asked_item s x) content before))
+
+pub kept_same : (s : Schema) (items : List Item) (old now : Option Content) (before after : Counts) → now ≡ old → after ≡ before → KeepsItem stops.NoMem s items old now before after
+kept_same s [] old now before after same none = same
+kept_same s (x ∷ xs) old now before after same none = inl (same_broken s x old now before after same none)
 
 within_more : (s : Schema) (todo more : List Item) (before now : Counts) → IsWithinItem s todo before now → IsWithinItem s (todo ++ more) before now
 within_more s [] [] before now h = h
@@ -162,15 +168,15 @@ halts_more f stops.WriteFailed m n [] more now part h = absurd h
 halts_more f stops.WriteFailed m n (x ∷ xs) more now part h = h
 halts_more f (stops.Damaged damage) m n todo more now part h = absurd h
 
-kept_more : (stop : Stop) (s : Schema) (todo more : List Item) (old now : Option Content) → KeepsItem stop s todo old now → KeepsItem stop s (todo ++ more) old now
-kept_more stops.StoreFailed s [] [] old now h = h
-kept_more stops.StoreFailed s [] (y ∷ ys) old now h = same_left s (asked_item s y) old now h
-kept_more stops.StoreFailed s (x ∷ xs) more old now h = h
-kept_more stops.WriteFailed s todo more old now h = tt
-kept_more stops.NoMem s [] more old now h = kept_same s more old now h
-kept_more stops.NoMem s (x ∷ xs) more old now h = h
-kept_more (stops.Damaged damage) s [] more old now h = absurd h
-kept_more (stops.Damaged damage) s (x ∷ xs) more old now h = h
+kept_more : (stop : Stop) (s : Schema) (todo more : List Item) (old now : Option Content) (before after : Counts) → (todo ≡ [] → after ≡ before) → KeepsItem stop s todo old now before after → KeepsItem stop s (todo ++ more) old now before after
+kept_more stops.StoreFailed s [] [] old now before after none h = h
+kept_more stops.StoreFailed s [] (y ∷ ys) old now before after none h = same_broken s y old now before after h (none refl)
+kept_more stops.StoreFailed s (x ∷ xs) more old now before after none h = h
+kept_more stops.WriteFailed s todo more old now before after none h = tt
+kept_more stops.NoMem s [] more old now before after none h = kept_same s more old now before after h (none refl)
+kept_more stops.NoMem s (x ∷ xs) more old now before after none h = h
+kept_more (stops.Damaged damage) s [] more old now before after none h = absurd h
+kept_more (stops.Damaged damage) s (x ∷ xs) more old now before after none h = h
 
 shown_more : (stop : Stop) (s : Schema) (todo more : List Item) (now : Option Content) → ShowsDamage stop s todo now → ShowsDamage stop s (todo ++ more) now
 shown_more stops.StoreFailed s todo more now h = tt
@@ -221,7 +227,8 @@ Stopped-before {answers = answers} {f = f} {stop = stop} {b = b} {n = n} ys p = 
   answered = answered_more answers stop p.last p.todo ys p.answered;
   still = p.still;
   passes = p.passes;
-  kept = kept_more stop p.last p.todo ys p.begun b.content p.kept;
+  kept = kept_more stop p.last p.todo ys p.begun b.content p.between b.counts
+      (λ none. part_none f stop p.last (n + length p.done) p.part p.between b.counts p.begun b.content (subst (λ (items : List Item). IsPart f stop p.last (n + length p.done) items p.part p.between b.counts p.begun b.content) none p.part_is)) p.kept;
   stands = λ m is. let q = p.stands m is in (q.0, halts_more f stop (after f m n p.done) (n + length p.done) p.todo ys b.content p.part q.1);
   own = λ m is. step_more f (after f m n p.done) (n + length p.done) p.todo ys p.between b.counts
       (λ none. part_none f stop p.last (n + length p.done) p.part p.between b.counts p.begun b.content (subst (λ (items : List Item). IsPart f stop p.last (n + length p.done) items p.part p.between b.counts p.begun b.content) none p.part_is)) (p.own m is);
@@ -265,7 +272,7 @@ Stopped-after {f = f} {stop = stop} {r = r} {s = s} {a = a} {b = b} {c = c} {n =
 
 -- the run stopped before any of these items was reported
 pub Stopped-at : {answers : List ℕ → Option (List ℕ) → Type 0} (f : Form) (stop : Stop) (s : Schema) (a b : Moment) (n : ℕ) (items : List Item) (part : List ℕ) → b.held ≡ append_known a.held part
-    → IsPart f stop s n items part a.counts b.counts a.content b.content → ShowsDamage stop s items b.content → AnswersItem answers stop s items → KeepsItem stop s items a.content b.content
+    → IsPart f stop s n items part a.counts b.counts a.content b.content → ShowsDamage stop s items b.content → AnswersItem answers stop s items → KeepsItem stop s items a.content b.content a.counts b.counts
     → ((m : Model) → StandsIn f a.content s m → Halts f stop m n items b.content part) → ((m : Model) → StandsIn f a.content s m → IsWithinStep f m n items a.counts b.counts) → StoppedItem answers f stop s a b n items
 Stopped-at f stop s a b n items part text is shown answered kept halts own = record {
   done = [];
@@ -300,7 +307,7 @@ halts_same f m n (x ∷ xs) now h = inl h
 -- the run stopped for want of memory before the next item was read whole
 pub Stopped-between : {answers : List ℕ → Option (List ℕ) → Type 0} (f : Form) (s : Schema) (a : Moment) (n : ℕ) (items : List Item) → ((m : Model) → StandsIn f a.content s m → OpensAt f a.content m) → StoppedItem answers f stops.NoMem s a a n items
 Stopped-between f s a n items opens =
-    Stopped-at f stops.NoMem s a a n items [] (sym (append_known-none a.held)) (refl, within_nothing s items a.counts) tt tt (kept_same s items a.content a.content refl) (λ m is. halts_same f m n items a.content (opens m is)) (λ m is. step_none f m n items a.counts)
+    Stopped-at f stops.NoMem s a a n items [] (sym (append_known-none a.held)) (refl, within_nothing s items a.counts) tt tt (kept_same s items a.content a.content a.counts a.counts refl refl) (λ m is. halts_same f m n items a.content (opens m is)) (λ m is. step_none f m n items a.counts)
 
 -- what a report tells as used is within the bound of its item
 within_item : (s : Schema) (n : ℕ) (item : Item) (report : Report) (before after : Counts) → IsReport s n item report → RisesBy (report ∷ []) before after → IsWithinFixed (asked_bound s (asked_item s item)) before after
@@ -317,9 +324,11 @@ matched_within expected report before after matches rises =
     record { ops = omega (arith, ops, matches.ops); entries = omega (arith, entries, matches.entries) }
 
 -- what was done of an item for whose report memory was wanting
-kept_made : (f : Form) (item : Item) (n : ℕ) (s t : Schema) (old now : Option Content) (before after : Counts) (report : Report) → MakesItem f item n s t old now before after report → KeepsItem stops.NoMem s (item ∷ []) old now
+kept_made : (f : Form) (item : Item) (n : ℕ) (s t : Schema) (old now : Option Content) (before after : Counts) (report : Report) → MakesItem f item n s t old now before after report → KeepsItem stops.NoMem s (item ∷ []) old now before after
 kept_made Run item n s t old now before after report made = inr (report, made.passes tt)
-kept_made Check item n s t old now before after report made = kept_same s (item ∷ []) old now (made.unopened (λ some. some))
+kept_made Check item n s t old now before after report made =
+    let none = made.unopened (λ some. some) in
+    kept_same s (item ∷ []) old now before after none.0 none.1
 kept_made (Fill k) item n s t old now before after report made = inr (report, made.passes tt)
 
 -- the run stopped while this item was reported

@@ -1,5 +1,5 @@
 -- One item, made over the store or for a check.
-use Rattle.std.proofs.Common.{◌≡◌, ℕ, false, true, ◌+◌, ◌≤◌, ◌⊎◌, List, [], ◌∷◌, Option, refl, sym, ap, ◌∙◌, subst, arith, inl, inr}
+use Rattle.std.proofs.Common.{◌≡◌, ℕ, false, true, ◌+◌, ◌≤◌, ◌⊎◌, List, [], ◌∷◌, Option, Some, None, refl, sym, ap, ◌∙◌, subst, arith, inl, inr}
 use Rattle.std.specs.Prelude.{IfSome}
 use Rattle.std.specs.Io.KnownBytes.{append_known}
 use Rattle.pq_base.specs.declared.number.Used.{Used}
@@ -21,7 +21,7 @@ use Rattle.pq_print.specs.declared.report.Report.{Report}
 use Rattle.pq_statement.specs.Actions.{action_of, schema_after, statement_bound}
 use Rattle.pq_check.specs.Checks.{checked_as, check_step, without_rows}
 use Rattle.pq_reports.specs.Evidence.{AnswersFor, TellsEvidenceFor}
-use Rattle.pq_reports.specs.Making.{LeavesAsked, MakesAsked}
+use Rattle.pq_reports.specs.Making.{IsWithinAsked, LeavesAsked, MakesAsked}
 use Rattle.pq_reports.specs.Matches.{Matches}
 use Rattle.pq_catalog.specs.Model.{Model}
 use Rattle.pq_reports.specs.Promise.{IsBound, IsRefusal, IsWithinFixed, KeepsDamaged, OnlyReads}
@@ -55,6 +55,10 @@ cut_shown Check read stop report h h' is = is
 cut_shown (Fill n) read stop report h h' is = absurd read
 
 -- ---- over the store
+
+both_told : (old : Option Content) (first second : Content → Type 0) → IfSome old first → IfSome old second → IfSome old (λ content. first content × second content)
+both_told None first second a b = tt
+both_told (Some content) first second a b = (a, b)
 
 module _ (number : ℕ) (piece : Piece) (s : Schema) (old now : Option Content) (before after : Counts) where
   module _ (next : Schema) (report : Report) (numbered : report.number ≡ number) (bound : IsBound (statement_bound s piece) report.bound)
@@ -108,22 +112,22 @@ module _ (number : ℕ) (piece : Piece) (s : Schema) (old now : Option Content) 
   broke_at : {answers : List ℕ → Option (List ℕ) → Type 0} (f : Form) (error : Broke) → HasOpening f → ((m : Model) → StandsIn f old s m → OpensAt f now m ⊎ OpensAt f now (item_step f m number (Cut piece)).model)
       → ((m : Model) → StandsIn f old s m → IsUndamaged error) → IsWithinFixed (statement_bound s piece) before after → IfSome now (λ content. TellsEvidenceFor (action_of s piece) s content error)
       → ((m : Model) → StandsIn f old s m → TakesAtMost (item_step f m number (Cut piece)).report.bound before after)
-      → KeepsDamaged s (action_of s piece) old now error → IfSome old (λ content. LeavesAsked s (action_of s piece) content now) → IsAnsweredBut (AnswersFor s (action_of s piece) answers) (next_key s) error → BreaksAt answers f (stop_of_broke error) (Cut piece) number s old now before after
-  broke_at f broke.Failed some stops_at sound within shown own kept left answered held =
-      Stopped-at f stops.StoreFailed s (moment old held before) (moment now held after) number (Cut piece ∷ []) [] (sym (append_known-none held)) (some, refl, within) tt tt left stops_at own
-  broke_at f broke.NoMem some stops_at sound within shown own kept left answered held =
-      Stopped-at f stops.NoMem s (moment old held before) (moment now held after) number (Cut piece ∷ []) [] (sym (append_known-none held)) (refl, within) tt tt (inl left) stops_at own
-  broke_at f (broke.Damaged damage) some stops_at sound within shown own kept left answered held =
-      Stopped-at f (stops.Damaged damage) s (moment old held before) (moment now held after) number (Cut piece ∷ []) [] (sym (append_known-none held)) (some, refl, within) shown answered kept (λ m is. absurd (sound m is)) own
+      → KeepsDamaged s (action_of s piece) old now error → IfSome old (λ content. LeavesAsked s (action_of s piece) content now) → IfSome old (λ content. IsWithinAsked (action_of s piece) content before after) → IsAnsweredBut (AnswersFor s (action_of s piece) answers) (next_key s) error → BreaksAt answers f (stop_of_broke error) (Cut piece) number s old now before after
+  broke_at f broke.Failed some stops_at sound within shown own kept left rows answered held =
+      Stopped-at f stops.StoreFailed s (moment old held before) (moment now held after) number (Cut piece ∷ []) [] (sym (append_known-none held)) (some, refl, within) tt tt (both_told old _ _ left rows) stops_at own
+  broke_at f broke.NoMem some stops_at sound within shown own kept left rows answered held =
+      Stopped-at f stops.NoMem s (moment old held before) (moment now held after) number (Cut piece ∷ []) [] (sym (append_known-none held)) (refl, within) tt tt (inl (both_told old _ _ left rows)) stops_at own
+  broke_at f (broke.Damaged damage) some stops_at sound within shown own kept left rows answered held =
+      Stopped-at f (stops.Damaged damage) s (moment old held before) (moment now held after) number (Cut piece ∷ []) [] (sym (append_known-none held)) (some, refl, within) shown answered (both_told old _ _ kept rows) (λ m is. absurd (sound m is)) own
 
   -- the session broke off at this item
   pub broke_over : {answers : List ℕ → Option (List ℕ) → Type 0} (f : Form) (error : Broke) → HasOpening f → ((m : Model) → Stands old s m → Opens now m ⊎ Opens now (step m number piece).model) → ((m : Model) → Stands old s m → IsUndamaged error)
       → IsWithinFixed (statement_bound s piece) before after → IfSome now (λ content. TellsEvidenceFor (action_of s piece) s content error)
       → ((m : Model) → Stands old s m → TakesAtMost (step m number piece).report.bound before after)
-      → KeepsDamaged s (action_of s piece) old now error → IfSome old (λ content. LeavesAsked s (action_of s piece) content now) → IsAnsweredBut (AnswersFor s (action_of s piece) answers) (next_key s) error → BreaksAt answers f (stop_of_broke error) (Cut piece) number s old now before after
-  broke_over Run error some stops_at sound within shown own kept left answered = broke_at Run error some stops_at sound within shown own kept left answered
-  broke_over Check error some stops_at sound within shown own kept left answered = absurd some
-  broke_over (Fill n) error some stops_at sound within shown own kept left answered = broke_at (Fill n) error some stops_at sound within shown own kept left answered
+      → KeepsDamaged s (action_of s piece) old now error → IfSome old (λ content. LeavesAsked s (action_of s piece) content now) → IfSome old (λ content. IsWithinAsked (action_of s piece) content before after) → IsAnsweredBut (AnswersFor s (action_of s piece) answers) (next_key s) error → BreaksAt answers f (stop_of_broke error) (Cut piece) number s old now before after
+  broke_over Run error some stops_at sound within shown own kept left rows answered = broke_at Run error some stops_at sound within shown own kept left rows answered
+  broke_over Check error some stops_at sound within shown own kept left rows answered = absurd some
+  broke_over (Fill n) error some stops_at sound within shown own kept left rows answered = broke_at (Fill n) error some stops_at sound within shown own kept left rows answered
 
 -- ---- for a check
 
@@ -162,11 +166,11 @@ module _ (number : ℕ) (piece : Piece) (s : Schema) (content : Option Content) 
         rises = record { ops = omega (arith, no_ops); entries = omega (arith, no_entries) };
         still = λ _. refl;
         passes = λ some. absurd some;
-        unopened = λ _. refl;
+        unopened = λ _. (refl, refl);
       }
 
   -- there was no memory for it
   pub lost_checked : {answers : List ℕ → Option (List ℕ) → Type 0} → BreaksAt answers Check stops.NoMem (Cut piece) number s content content counts counts
   lost_checked held =
       Stopped-at Check stops.NoMem s (moment content held counts) (moment content held counts) number (Cut piece ∷ []) [] (sym (append_known-none held))
-      (refl, within_none (statement_bound s piece) counts) tt tt (kept_same s (Cut piece ∷ []) content content refl) (λ m is. inl tt) (λ m is. record { ops = omega arith; entries = omega arith })
+      (refl, within_none (statement_bound s piece) counts) tt tt (kept_same s (Cut piece ∷ []) content content counts counts refl refl) (λ m is. inl tt) (λ m is. record { ops = omega arith; entries = omega arith })

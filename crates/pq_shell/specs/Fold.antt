@@ -14,7 +14,7 @@ use Rattle.pq_statement.specs.Actions.{asked_bound, asked_schema}
 use Rattle.pq_reports.specs.Evidence.{IsEvidenceFor}
 use Rattle.pq_catalog.specs.Model.{Model}
 use Rattle.pq_reports.specs.Matches.{Matches}
-use Rattle.pq_reports.specs.Making.{LeavesAsked, MakesAsked}
+use Rattle.pq_reports.specs.Making.{IsWithinAsked, LeavesAsked, MakesAsked}
 use Rattle.pq_reports.specs.Promise.{IsBound, IsRefusal, IsWithinFixed, OnlyReads, StopsAsked}
 use Rattle.pq_reports.specs.Refusing.{CanEnd, IsUnread}
 use Rattle.pq_reports.specs.Telling.{TellsAsked}
@@ -149,20 +149,26 @@ AreStill schema (item ∷ items) [] = Unit {0}
 AreStill schema (item ∷ items) (report ∷ reports) =
     IsStill schema item report × AreStill (schema_behind schema item report) items reports
 
+-- an item broke off and left this of a content that is told; an index that it was making took no more than its table's
+-- rows there need
+abbrev pub BreaksItem : (Content → Type 0) → Schema → Item → Option Content → Counts → Counts → Type 0
+BreaksItem leaves schema item old before after =
+    IfSome old (λ content. leaves content × IsWithinAsked (asked_item schema item) content before after)
+
 -- damage leaves what was there as the item at hand began, but for an index that was being made; where a call failed
 -- nothing was done, or some of what was asked for; and where memory was wanting the same, or all of it was done and its
 -- report couldn't be made. What was done where a report is cut stands with the report
-abbrev pub KeepsItem : Stop → Schema → List Item → Option Content → Option Content → Type 0
-KeepsItem (stops.Damaged damage) schema [] old now = ⊥
-KeepsItem (stops.Damaged damage) schema (item ∷ items) old now =
-    IfSome old (λ content. StopsAsked schema (asked_item schema item) content now)
-KeepsItem stops.StoreFailed schema [] old now = now ≡ old
-KeepsItem stops.StoreFailed schema (item ∷ items) old now =
-    IfSome old (λ content. LeavesAsked schema (asked_item schema item) content now)
-KeepsItem stops.WriteFailed schema todo old now = Unit {0}
-KeepsItem stops.NoMem schema [] old now = now ≡ old
-KeepsItem stops.NoMem schema (item ∷ items) old now =
-    IfSome old (λ content. LeavesAsked schema (asked_item schema item) content now)
+abbrev pub KeepsItem : Stop → Schema → List Item → Option Content → Option Content → Counts → Counts → Type 0
+KeepsItem (stops.Damaged damage) schema [] old now before after = ⊥
+KeepsItem (stops.Damaged damage) schema (item ∷ items) old now before after =
+    BreaksItem (λ content. StopsAsked schema (asked_item schema item) content now) schema item old before after
+KeepsItem stops.StoreFailed schema [] old now before after = now ≡ old
+KeepsItem stops.StoreFailed schema (item ∷ items) old now before after =
+    BreaksItem (λ content. LeavesAsked schema (asked_item schema item) content now) schema item old before after
+KeepsItem stops.WriteFailed schema todo old now before after = Unit {0}
+KeepsItem stops.NoMem schema [] old now before after = now ≡ old
+KeepsItem stops.NoMem schema (item ∷ items) old now before after =
+    BreaksItem (λ content. LeavesAsked schema (asked_item schema item) content now) schema item old before after
     ⊎ ((report : Report) × PassesItem schema item report old now)
 
 -- ---- over a model
@@ -241,7 +247,7 @@ pub record StoppedItem (answers : List ℕ → Option (List ℕ) → Type 0) (fo
   pub answered : AnswersItem answers stop last todo
   pub still : AreStill first done reports → begun ≡ from.content
   pub passes : HasOpening form → PassesOn first done reports from.content begun
-  pub kept : KeepsItem stop last todo begun now.content
+  pub kept : KeepsItem stop last todo begun now.content between now.counts
   pub stands : (m : Model) → StandsIn form from.content first m
       → ReportedItems form m number done reports
       × Halts form stop (after form m number done) (number + length done) todo now.content part

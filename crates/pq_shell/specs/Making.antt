@@ -29,7 +29,7 @@ pub record MakesItem (form : Form) (item : Item) (number : ℕ) (schema next : S
   pub rises : RisesBy (report ∷ []) before after
   pub still : IsStill schema item report → now ≡ old
   pub passes : HasOpening form → PassesItem schema item report old now
-  pub unopened : (HasOpening form → ⊥) → now ≡ old
+  pub unopened : (HasOpening form → ⊥) → (now ≡ old) × (after ≡ before)
 
 abbrev pub moment : Option Content → Option (List ℕ) → Counts → Moment
 moment content held counts = record { content = content; held = held; counts = counts }

@@ -29,7 +29,7 @@ returns-in-Ok-clause-own g c =
     let counted : IsCountedWithin (all_moves (counters_in c.args.catalog.now) c.args.write.now) (Changes c.in-Ok-Changes.more) = subst (IsCountedWithin (all_moves (counters_in c.args.catalog.now) c.args.write.now)) c.in-Ok-Changes.field-0-is c.in-Ok-Changes.ensures.plan in
     let told = seen_content c.args.pending.now.changes (g.S.Store.content c.args.store.now) in
     has_whole c.args.catalog.now told c.args.write.now c.args.old.now c.args.changes c.in-Ok-Changes.more c.in-Ok.all
-    c.requires.read c.requires.fits c.requires.own counted.each
+    c.requires.read c.requires.passed c.requires.fits c.requires.own counted.each
     (subst (CountsBy c.args.catalog.now c.args.write.now c.args.old.now told) c.in-Ok-Changes.field-0-is c.in-Ok-Changes.ensures.counts) c.in-Ok.ensures
 
 pub returns-in-Ok-clause-answer : goal.returns-in-Ok-clause-answer

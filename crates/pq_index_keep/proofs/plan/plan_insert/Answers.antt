@@ -1,6 +1,8 @@
-use Rattle.std.proofs.Common.{◌∙◌, sym, subst}
+use Rattle.std.proofs.Common.{◌∙◌, None, sym, subst}
 use Rattle.pq_schema.specs.Tables.{table_at}
-use Rattle.pq_index_keep.specs.Promises.{IsTested}
+use Rattle.pq_index_keep.specs.Promises.{IsTested, PassesTests}
+use Rattle.pq_pending.specs.Calls.{seen}
+use Rattle.pq_index_keep.proofs.Asked.{where_none}
 use Rattle.pq_index_keep.proofs.Changing.{own_puts}
 use Rattle.pq_index_keep.proofs.Coding.{fit_texts, fit_columns, insert_planned}
 use Rattle.pq_index_keep.proofs.Inserting.{writable_at, is_tested, insert_refused, insert_made}
@@ -63,3 +65,8 @@ returns-in_ok-changes-in-None-clause-short g c =
 pub returns-in_ok-changes-in-None-clause-thin : goal.returns-in_ok-changes-in-None-clause-thin
 returns-in_ok-changes-in-None-clause-thin g c =
     subst (RemovesAtMost 0) (sym (own_puts c.args.number c.table_of-table.result.now c.args.row.now c.in_ok-at.at _ c.in_ok-at.ensures c.in_ok-changes-in-None.ensures)) (puts_remove (pairs_of_row c.args.number c.table_of-table.result.now c.args.row.now))
+
+pub returns-in_ok-changes-in-None-clause-passed : goal.returns-in_ok-changes-in-None-clause-passed
+returns-in_ok-changes-in-None-clause-passed g c =
+    where_none c.in_ok-refusal.refusal (IfSome (seen g.S.Store.content c.args.calls.now) (PassesTests c.args.catalog.now.tables (Insert c.args.number c.args.row.now) None)) c.in-None.is
+    (rw (← c.table_of-table.ensures.table) c.in_ok-refusal.ensures.passed)

@@ -1,12 +1,15 @@
-use Rattle.std.proofs.Common.{◌∙◌, ℕ, sym, List, ◌∷◌, None, subst}
+use Rattle.std.proofs.Common.{◌∙◌, ℕ, sym, List, ◌∷◌, None, Some, subst}
 use Rattle.pq_schema.specs.Tables.{table_at}
 use Rattle.pq_schema.proofs.TypeKinds.{kinds_from_fit}
+use Rattle.pq_index_keep.proofs.Asked.{where_none}
 use Rattle.pq_index_keep.proofs.Changing.{first_at}
 use Rattle.pq_index_keep.proofs.Coding.{delete_planned}
 use Rattle.pq_index_keep.proofs.Deleting.{may_name, delete_refused, delete_made}
 use Rattle.pq_index_keep.proofs.Inserting.{writable_at}
 use Rattle.std.specs.Prelude.{IfSome}
 use Rattle.pq_schema.specs.declared.table.Table.{Table}
+use Rattle.pq_pending.specs.Calls.{seen}
+use Rattle.pq_index_keep.specs.Promises.{PassesTests}
 use Rattle.pq_index_keep.specs.Refusals.{IsDeleteRefusal}
 use Rattle.pq_index_keep.specs.declared.write.Write.TheVariants.{Delete}
 use Rattle.pq_index_keep.proofs.Refusing.{deletes_can, found_can}
@@ -57,3 +60,8 @@ pub returns-in_ok-changes-in-None-clause-thin : goal.returns-in_ok-changes-in-No
 returns-in_ok-changes-in-None-clause-thin g c = λ conds.
     let table = c.table_of-table.result.now in
     subst (RemovesAtMost 1) (sym c.in_ok-changes-in-None.ensures) (subst (λ (at : List ℕ). RemovesAtMost 1 ((at, None) ∷ removals (entries_from c.args.number 1 table table.indexes c.args.row.now))) (sym c.requires.at) (removal_removes c.args.number table table.indexes c.args.key.now c.args.row.now))
+
+pub returns-in_ok-changes-in-None-clause-passed : goal.returns-in_ok-changes-in-None-clause-passed
+returns-in_ok-changes-in-None-clause-passed g c = λ conds.
+    where_none c.in_ok-refusal.refusal (IfSome (seen g.S.Store.content c.args.calls.now) (PassesTests c.args.catalog.now.tables (Delete c.args.number c.args.key.now conds) (Some c.args.row.now))) c.in-None.is
+    (rw c.tables-tables.ensures.tables at c.in_ok-refusal.ensures.passed)

@@ -6,6 +6,7 @@ use Rattle.pq_pending.specs.Calls.{seen}
 use Rattle.pq_pending.proofs.Steps.{uses_within}
 use Rattle.pq_index_keep.specs.Asking.{child_tests, child_refusal_at}
 use Rattle.pq_index_keep.specs.Refusals.{IsDeleteRefusal}
+use Rattle.pq_index_keep.proofs.Asked.{none_held}
 use Rattle.pq_index_keep.proofs.Referring.{child_told, child_can, child_within, children_cheap, children_countable, children_rounds}
 use Rattle.pq_index_keep.proofs.references.child_refusal.Goals as goal
 
@@ -100,3 +101,9 @@ returns-clause-answer g c = λ rows others s.
     c.items.ensures ∙ c.in_ok-ask_children.ensures ∙ ap (λ (ts : List Test). ts ++ child_tests c.args.number c.args.key.now 1 c.args.tables.now) c.new-tests.ensures in
     child_told c.args.tables.now rows others (seen g.S.Store.content c.args.calls.now) s c.args.number c.args.key.now c.items.result.now c.in_ok-first_held.field-0 (Some c.in_ok-child_refusal_at-in-Some.field-0) c.requires.sound c.requires.may are c.in_ok-first_held.ensures.answer
     (ap Some c.in_ok-child_refusal_at-in-Some.ensures ∙ ap (option_map (child_refusal_at c.args.number c.args.tables.now)) (sym c.in-Some.is))
+
+pub returns-in-None-clause-passed : goal.returns-in-None-clause-passed
+returns-in-None-clause-passed g c =
+    let are : c.items.result.now ≡ child_tests c.args.number c.args.key.now 1 c.args.tables.now =
+    c.items.ensures ∙ c.in_ok-ask_children.ensures ∙ ap (λ (ts : List Test). ts ++ child_tests c.args.number c.args.key.now 1 c.args.tables.now) c.new-tests.ensures in
+    none_held (seen g.S.Store.content c.args.calls.now) c.items.result.now _ c.in_ok-first_held.field-0 are c.in-None.is c.in_ok-first_held.ensures.answer

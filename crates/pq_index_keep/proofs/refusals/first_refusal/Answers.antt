@@ -3,7 +3,7 @@ use Rattle.std.specs.Prelude.{option_map}
 use Rattle.pq_pending.specs.Calls.{seen}
 use Rattle.pq_pending.proofs.Steps.{uses_within}
 use Rattle.pq_index_keep.specs.Asking.{test_refusal}
-use Rattle.pq_index_keep.proofs.Asked.{asked_can, first_told, held_inside, parent_there, room_there, tests_cheap, tests_countable, tests_rounds}
+use Rattle.pq_index_keep.proofs.Asked.{asked_can, first_told, held_inside, none_held, parent_there, room_there, tests_cheap, tests_countable, tests_rounds}
 use Rattle.pq_index_keep.proofs.refusals.first_refusal.Goals as goal
 
 pub first_held-requires-clause-few : goal.first_held-requires-clause-few
@@ -82,3 +82,7 @@ returns-clause-answer g c =
     λ tables rows others s is tested.
     first_told tables rows others (seen g.S.Store.content c.args.calls.now) s c.args.own c.items.result.now c.args.scope.now c.args.old.now c.args.number c.args.table.now c.args.row.now (length c.items-first.result.now) c.in_ok-asked.asked.parents c.in_ok-first_held.field-0 (Some c.in_ok-refusal-in-Some.refusal) is tested c.requires.access c.requires.own
     (c.items.ensures ∙ c.in_ok-asked.ensures.tests) (ap length c.items-first.ensures) c.in_ok-asked.ensures.parents c.in_ok-first_held.ensures.answer (ap Some c.in_ok-refusal-in-Some.ensures ∙ ap (option_map (test_refusal (length c.items-first.result.now) c.in_ok-asked.asked.parents c.args.scope.now c.args.old.now c.args.table.now c.args.row.now)) (sym c.in-Some.is))
+
+pub returns-in-None-clause-passed : goal.returns-in-None-clause-passed
+returns-in-None-clause-passed g c =
+    none_held (seen g.S.Store.content c.args.calls.now) c.items.result.now _ c.in_ok-first_held.field-0 (c.items.ensures ∙ c.in_ok-asked.ensures.tests) c.in-None.is c.in_ok-first_held.ensures.answer

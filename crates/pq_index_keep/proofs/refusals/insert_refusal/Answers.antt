@@ -1,11 +1,14 @@
-use Rattle.std.proofs.Common.{◌≡◌, List, length, refl, sym, ap, subst, arith}
-use Rattle.std.specs.Prelude.{IfOk, IfSome}
+use Rattle.std.proofs.Common.{◌≡◌, ◌∙◌, ◌++◌, ℕ, List, [], ◌∷◌, None, length, position, refl, sym, ap, subst, arith}
+use Rattle.std.specs.Prelude.{IfOk, IfSome, IfNone}
 use Rattle.std.proofs.lemmas.Result.{IfOk-weaker}
+use Rattle.pq_store.specs.Rounds.{is_held}
 use Rattle.pq_store.specs.declared.store.Test.{Test}
 use Rattle.pq_store.specs.declared.store.Test.TheVariants.{Has}
+use Rattle.pq_pending.specs.Calls.{seen}
 use Rattle.pq_pending.proofs.Steps.{uses_within}
-use Rattle.pq_index_keep.specs.Asking.{IsOwn}
+use Rattle.pq_index_keep.specs.Asking.{IsOwn, row_tests}
 use Rattle.pq_index_keep.specs.Refusals.{IsAskedRefusal}
+use Rattle.pq_index_keep.specs.declared.write.Scope.TheVariants.{All}
 use Rattle.pq_index_keep.proofs.Asked.{inserted}
 use Rattle.pq_index_keep.proofs.refusals.insert_refusal.Goals as goal
 
@@ -30,3 +33,8 @@ pub returns-clause-answer : goal.returns-clause-answer
 returns-clause-answer g c =
     IfOk-weaker c.first_refusal.result _ _ (λ refusal answer tables rows others s is tested.
     inserted tables rows c.args.number c.args.row.now c.args.table.now c.in_ok-own.own c.args.at.now refusal c.in_ok-own.ensures is (answer tables rows others s is tested)) c.first_refusal.ensures.answer
+
+pub returns-clause-passed : goal.returns-clause-passed
+returns-clause-passed g c =
+    subst (λ (own : List Test). IfOk c.first_refusal.result (λ refusal. IfNone refusal (IfSome (seen g.S.Store.content c.args.calls.now) (λ content. position (is_held content) (own ++ row_tests All None c.args.number c.args.table.now c.args.row.now) ≡ None))))
+    (c.in_ok-own.ensures ∙ ap (λ (at : List ℕ). Has at ∷ []) c.requires.at) c.first_refusal.ensures.passed

@@ -4,6 +4,8 @@ use Rattle.pq_schema.specs.Tables.{table_at}
 use Rattle.pq_index_keep.specs.Promises.{IsTested}
 use Rattle.pq_index_keep.specs.Sound.{IsWritable}
 use Rattle.pq_index_keep.specs.Tested.{with_sets, scope_of}
+use Rattle.pq_pending.specs.Calls.{seen}
+use Rattle.pq_index_keep.proofs.Asked.{as_asked, where_none}
 use Rattle.pq_index_keep.proofs.Changing.{first_at}
 use Rattle.pq_index_keep.proofs.Coding.{fit_texts, fit_columns, update_planned}
 use Rattle.pq_index_keep.proofs.Inserting.{writable_at, is_tested}
@@ -106,3 +108,8 @@ pub returns-in_ok-changes-in-None-clause-thin : goal.returns-in_ok-changes-in-No
 returns-in_ok-changes-in-None-clause-thin g c = λ conds.
     let table = c.table_of-table.result.now in
     subst (RemovesAtMost 1) (sym c.in_ok-changes-in-None.ensures) (update_removes c.args.number table table.indexes c.args.at (stored_code table c.args.new.now) c.args.row.now c.args.new.now)
+
+pub returns-in_ok-changes-in-None-clause-passed : goal.returns-in_ok-changes-in-None-clause-passed
+returns-in_ok-changes-in-None-clause-passed g c = λ conds.
+    as_asked (seen g.S.Store.content c.args.calls.now) c.args.catalog.now.tables c.args.number c.args.sets.now c.args.row.now _ (Some c.in_ok-copy.copy) c.table_of-table.result.now c.args.new.now c.table_of-table.ensures.table c.requires.new c.scope_of-scope.ensures (ap (λ (v : List Value). Some v) c.in_ok-copy.ensures)
+    (where_none c.in_ok-refusal.refusal _ c.in-None.is c.in_ok-refusal.ensures.passed)

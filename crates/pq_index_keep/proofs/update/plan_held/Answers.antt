@@ -33,3 +33,6 @@ returns-in-Ok-clause-can g c = c.in-Ok.ensures.can c.args.conds.now
 
 pub returns-in-Ok-clause-thin : goal.returns-in-Ok-clause-thin
 returns-in-Ok-clause-thin g c = c.in-Ok.ensures.thin c.args.conds.now
+
+pub returns-in-Ok-clause-passed : goal.returns-in-Ok-clause-passed
+returns-in-Ok-clause-passed g c = c.in-Ok.ensures.passed c.args.conds.now

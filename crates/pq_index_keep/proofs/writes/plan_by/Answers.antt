@@ -70,3 +70,6 @@ returns-in-Err-plan_delete-clause-rounds g c = rw c.in-Delete.is c.plan_delete.e
 
 pub returns-in-Ok-plan_delete-clause-rounds : goal.returns-in-Ok-plan_delete-clause-rounds
 returns-in-Ok-plan_delete-clause-rounds g c = rw c.in-Delete.is c.plan_delete.ensures.rounds
+
+pub returns-in-Ok-plan_update-clause-passed : goal.returns-in-Ok-plan_update-clause-passed
+returns-in-Ok-plan_update-clause-passed g c = rw c.in-Update.is c.in-Ok-plan_update.ensures.passed

@@ -34,7 +34,7 @@ returns-in-Err-statement g c =
     let e = c.in-Err-statement.ensures in
     rw c.of.ensures (record {
       ok = tt;
-      err = broke_over c.args.number c.args.piece.now c.args.session _ _ _ _ c.args.form c.in-Err-statement.broke some e.stopped e.damage e.building e.lasting e.within_own e.kept e.left
+      err = broke_over c.args.number c.args.piece.now c.args.session _ _ _ _ c.args.form c.in-Err-statement.broke some e.stopped e.damage e.building e.lasting e.within_own e.kept e.left e.within_rows
           e.answered;
       unmoved = λ check. absurd (subst HasOpening check some);
       causes = search rules;
