@@ -1,4 +1,4 @@
-use Rattle.std.proofs.Common.{◌∙◌, None, sym, subst}
+use Rattle.std.proofs.Common.{◌≡◌, ◌∙◌, ◌∷◌, None, position, sym, subst}
 use Rattle.pq_schema.specs.Tables.{table_at}
 use Rattle.pq_index_keep.specs.Promises.{IsTested, PassesTests}
 use Rattle.pq_pending.specs.Calls.{seen}
@@ -6,12 +6,18 @@ use Rattle.pq_index_keep.proofs.Asked.{where_none}
 use Rattle.pq_index_keep.proofs.Changing.{own_puts}
 use Rattle.pq_index_keep.proofs.Coding.{fit_texts, fit_columns, insert_planned}
 use Rattle.pq_index_keep.proofs.Inserting.{writable_at, is_tested, insert_refused, insert_made}
-use Rattle.std.specs.Prelude.{IfSome}
+use Rattle.std.specs.Prelude.{IfSome, IfNone}
 use Rattle.pq_schema.specs.declared.table.Table.{Table}
 use Rattle.pq_index_keep.specs.Refusals.{IsInsertRefusal}
 use Rattle.pq_index_keep.specs.declared.write.Write.TheVariants.{Insert}
 use Rattle.pq_index_keep.proofs.Refusing.{found_can}
 use Rattle.pq_content.specs.Pairs.{pairs_of_row}
+use Rattle.pq_content.specs.Tables.{key_of}
+use Rattle.pq_key_code.specs.KeyCode.{row_key}
+use Rattle.pq_store.specs.Rounds.{is_held}
+use Rattle.pq_store.specs.declared.store.Test.TheVariants.{Has}
+use Rattle.pq_index_keep.specs.Asking.{row_tests}
+use Rattle.pq_index_keep.specs.declared.write.Scope.TheVariants.{All}
 use Rattle.pq_index_keep.proofs.Removing.{puts_remove}
 use Rattle.pq_index_keep.proofs.Shortened.{insert_short}
 use Rattle.pq_pending.specs.Pending.{RemovesAtMost}
@@ -69,4 +75,5 @@ returns-in_ok-changes-in-None-clause-thin g c =
 pub returns-in_ok-changes-in-None-clause-passed : goal.returns-in_ok-changes-in-None-clause-passed
 returns-in_ok-changes-in-None-clause-passed g c =
     where_none c.in_ok-refusal.refusal (IfSome (seen g.S.Store.content c.args.calls.now) (PassesTests c.args.catalog.now.tables (Insert c.args.number c.args.row.now) None)) c.in-None.is
-    (rw (← c.table_of-table.ensures.table) c.in_ok-refusal.ensures.passed)
+    (subst (λ (t : Table). IfNone c.in_ok-refusal.refusal (IfSome (seen g.S.Store.content c.args.calls.now) (λ content. position (is_held content) (Has (row_key c.args.number (key_of t c.args.row.now)) ∷ row_tests All None c.args.number t c.args.row.now) ≡ None)))
+    c.table_of-table.ensures.table c.in_ok-refusal.ensures.passed)
