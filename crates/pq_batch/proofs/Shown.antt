@@ -66,6 +66,7 @@ untold schema told write changes h = record {
   counts = h.counts;
   are = h.are;
   read = tt;
+  passed = tt;
   fits = h.fits;
   own = h.own;
   counted = h.counted;
