@@ -51,7 +51,7 @@ filter_alike : (p f g : List ℕ × List ℕ → Bool) → ((pair : List ℕ × 
 filter_alike p f g same [] all = refl
 filter_alike p f g same (pair ∷ pairs) all = grind (arith, all, same pair, filter_alike p f g same pairs)
 
-filter_none : (p f : List ℕ × List ℕ → Bool) → ((pair : List ℕ × List ℕ) → p pair ≡ true → f pair ≡ false) → (pairs : Pairs) → list_all p pairs ≡ true → filter f pairs ≡ []
+pub filter_none : (p f : List ℕ × List ℕ → Bool) → ((pair : List ℕ × List ℕ) → p pair ≡ true → f pair ≡ false) → (pairs : Pairs) → list_all p pairs ≡ true → filter f pairs ≡ []
 filter_none p f none [] all = refl
 filter_none p f none (pair ∷ pairs) all = grind (arith, all, none pair, filter_none p f none pairs)
 
@@ -101,7 +101,7 @@ met_by span low high pair of is =
     ends None before from_low = refl
     ends (Some end) before from_low = le_lt low pair.0 end from_low before
 
-unmet_is : (span : Span) (low high : List ℕ) → span_meets low high span ≡ false → (pair : List ℕ × List ℕ) → is_of span pair.0 ≡ true → is_within low high pair ≡ false
+pub unmet_is : (span : Span) (low high : List ℕ) → span_meets low high span ≡ false → (pair : List ℕ × List ℕ) → is_of span pair.0 ≡ true → is_within low high pair ≡ false
 unmet_is span low high unmet pair of =
     elim (is_within low high pair) as (λ b. is_within low high pair ≡ b → b ≡ false) [
       | true ↦ λ is. sym (met_by span low high pair of is) ∙ unmet

@@ -1,5 +1,5 @@
 -- A range and a count over the parts in order.
-use Rattle.std.proofs.Common.{◌≡◌, ℕ, zero, suc, ◌+◌, ◌-◌, ◌≤◌, ◌<◌, true, List, [], ◌∷◌, ◌++◌, length, map, take, drop, filter, min, All, IsTrue, IfSome, Option, Some, None, Result, Ok, Err, IfOk, cond, get_or, drop-cons, refl, sym, ap, ◌∙◌, arith, append_assoc}
+use Rattle.std.proofs.Common.{◌≡◌, ℕ, zero, suc, ◌+◌, ◌-◌, ◌≤◌, ◌<◌, true, List, [], ◌∷◌, ◌++◌, length, map, take, drop, filter, min, All, IsTrue, IfSome, Option, Some, None, Result, Ok, Err, IfOk, OnOk, cond, get_or, drop-cons, refl, sym, ap, ◌∙◌, arith, append_assoc}
 use Rattle.std.specs.Option.{option_map}
 use Rattle.std.specs.Ordering.{is_lt}
 use Rattle.std.specs.List.{list_all}
@@ -16,6 +16,8 @@ use Rattle.pq_parts.specs.declared.part.Part.{Part}
 use Rattle.pq_parts.specs.Clips.{is_key_before}
 use Rattle.pq_parts.specs.Spans.{Span, is_of, span_of, spans, first_from, span_meets, own_content, concatenation, joined_content, number_met, IsPieceOf, IsPlacement}
 use Rattle.pq_parts.specs.Tally.{TalliedCalls, HasAsked}
+use Rattle.pq_store.specs.declared.store.Ends.{Ends}
+use Rattle.pq_parts.specs.Asking.{AreAnswersPut, IsTold, ArePairsTold, own_key, own_ask, IsGetsAt, IsRangesAt}
 use Rattle.pq_parts.specs.Gathered.{begin_of, LinkedSpans, HasCome, LeavesRange, IsGathered, IsPieceAt, IsCountAt}
 use Rattle.pq_parts.proofs.Clips.{lt_le, lt_is_le, second_of_two, first_of_two}
 use Rattle.pq_parts.proofs.Asked.{not_asked, called_more, called_fewer}
@@ -282,6 +284,16 @@ module _ {S : Type 0} (content : S → Option Content) (parts : List (Part S)) (
       → IfOk result (λ n. IfSome (own_content (span_of content part until)) (λ mine. n ≡ min cap (length (filter (is_within low high) mine))))
       → IsCountAt (spans content parts) at low high cap before now result
   count_here low high cap before now result asked few answer = record { span = span_of content part until; cut = cut_here; asked = asked; few = few; answer = answer }
+
+  pub gets_here : (keys old new : List (Option (List ℕ))) {A : Type 0} (result : Result A StoreErr)
+      → OnOk result (AreAnswersPut (IsTold (content part.store)) (map (own_key part.from until) keys) old new) → OnOk result (IsGetsAt (spans content parts) at keys old new)
+  gets_here keys old new (Ok x) put = record { span = span_of content part until; cut = cut_here; put = put }
+  gets_here keys old new (Err e) put = tt
+
+  pub ranges_here : (limit : ℕ) (asks : List (Option Ends)) (old new : List (List Pair)) {A : Type 0} (result : Result A StoreErr)
+      → OnOk result (AreAnswersPut (ArePairsTold (content part.store) limit) (map (own_ask part.from until) asks) old new) → OnOk result (IsRangesAt (spans content parts) at limit asks old new)
+  ranges_here limit asks old new (Ok x) put = record { span = span_of content part until; cut = cut_here; put = put }
+  ranges_here limit asks old new (Err e) put = tt
 
 -- where there was no memory for the end
 pub no_piece : {S : Type 0} (content : S → Option Content) (parts : List (Part S)) → IsPlacement parts → (at : ℕ) → at < length parts → (low high : List ℕ) (limit : ℕ) (before : TalliedCalls) (e : StoreErr)

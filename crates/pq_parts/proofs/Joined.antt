@@ -18,7 +18,7 @@ use Rattle.pq_parts.specs.Gathered.LinkedSpans.{none, link}
 use Rattle.pq_parts.proofs.Clips.{lt_le, lt_is_le, first_of_two, second_of_two}
 use Rattle.pq_parts.proofs.Pairs.{are_before, find_over, find_past, changed, changed_over, changed_past, entries_after, seen_changed, all_changed, rising_both}
 
-begins_first : {S : Type 0} (content : S → Option Content) (parts : List (Part S)) → begin_of (spans content parts) ≡ first_from parts
+pub begins_first : {S : Type 0} (content : S → Option Content) (parts : List (Part S)) → begin_of (spans content parts) ≡ first_from parts
 begins_first content [] = refl
 begins_first content (part ∷ parts) = refl
 

@@ -1,7 +1,11 @@
 pub mod Clips
 pub mod Asked
+pub mod Put
+pub mod Paying
 pub mod Placed
 pub mod Pairs
 pub mod Joined
 pub mod Nodes
 pub mod Gather
+pub mod Fetched
+pub mod Ranged

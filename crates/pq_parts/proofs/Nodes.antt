@@ -9,6 +9,7 @@ use Rattle.pq_store.specs.declared.store.Guard.{Guard}
 use Rattle.pq_store.specs.declared.store.StoreErr.{StoreErr}
 use Rattle.pq_store.specs.Content.{Content, after_write, HasRisen, HasCause}
 use Rattle.pq_parts.specs.declared.part.Part.{Part}
+use Rattle.pq_parts.specs.Asking.{rounds_of}
 use Rattle.pq_parts.specs.Tally.{raised_number}
 use Rattle.pq_parts.specs.Spans.{span_of, spans, joined_content, first_from, firsts, part_has_key, IsPlacement, faults_of}
 use Rattle.pq_parts.proofs.Joined.{linked, has_span, answer_at, with_held, joined_written}
@@ -71,6 +72,14 @@ module _ {S : Type 0} (part : Part S) (store : S) where
       risen old new before now sums one (inl less) = grind arith
       risen old new before now sums one (inr last) = grind arith
 
+  -- one round more of the node
+  pub rounds_set : (rounds : S → ℕ) (parts : List (Part S)) (at : ℕ) → at < length parts → part ≡ get_or parts at part → rounds store ≤ rounds part.store + 1
+      → rounds_of rounds (set parts at (with_node part store)) ≤ rounds_of rounds parts + 1
+  rounds_set rounds parts at within here once =
+      let sums : rounds_of rounds (set parts at (with_node part store)) + rounds part.store ≡ rounds_of rounds parts + rounds store
+      = rw (← here) at (sum_by-set (λ p. rounds p.store) parts at (with_node part store) part within) in
+      omega (arith, sums, once)
+
 -- the same of a part that begins where the old one does
 module _ {S : Type 0} (part new : Part S) (kept : new.from ≡ part.from) (parts : List (Part S)) (at : ℕ) (here : part ≡ get_or parts at part) where
   moved : new ≡ with_node part new.store
@@ -89,6 +98,9 @@ module _ {S : Type 0} (part new : Part S) (kept : new.from ≡ part.from) (parts
       → HasCause (faults part.store) (faults new.store) result → HasCause (faults_of faults parts) (faults_of faults (set parts at new)) result
   cause_moved faults within result cause =
       subst (λ p. HasCause (faults_of faults parts) (faults_of faults (set parts at p)) result) (sym moved) (cause_set part new.store faults parts at within here result cause)
+
+  pub rounds_moved : (rounds : S → ℕ) → at < length parts → rounds new.store ≤ rounds part.store + 1 → rounds_of rounds (set parts at new) ≤ rounds_of rounds parts + 1
+  rounds_moved rounds within once = subst (λ p. rounds_of rounds (set parts at p) ≤ rounds_of rounds parts + 1) (sym moved) (rounds_set part new.store rounds parts at within here once)
 
 -- the span of the part at a place
 pub span_here : {S : Type 0} (content : S → Option Content) (parts : List (Part S)) (at : ℕ) (part : Part S) → at < length parts → part ≡ get_or parts at part

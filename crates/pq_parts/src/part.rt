@@ -1,12 +1,14 @@
 //! One part: a key and the node that has the keys from there on.
-ghost use Rattle.std.specs.Prelude.{◌≡◌, ◌≤◌, IfSome, IfOk, ◌∷◌, [], filter, map, take, length, min};
+ghost use Rattle.std.specs.Prelude.{◌≡◌, ◌≤◌, ◌<◌, ◌+◌, ◌*◌, ◌^◌, IfSome, IfOk, OnOk, ◌∷◌, [], filter, map, take, length, min};
 ghost use Rattle.pq_store.specs.Content.{entry, is_within, ranged_entries, counted_entries, HasCause};
 ghost use Rattle.pq_parts.specs.Tally.{HasAsked};
+ghost use Rattle.pq_parts.specs.Asking as asking;
 
+use crate::asking::{number_of, put_answers};
 use crate::clip::{earlier, later};
 use crate::tally::Tally;
-use pq_base::{Bytes, List};
-use pq_store::{Pair, Store, StoreErr};
+use pq_base::{Bytes, List, NoMem};
+use pq_store::{Ends, Pair, Store, StoreErr};
 use std::alloc::Global;
 use std::sync::ledger::Ledger;
 
@@ -95,5 +97,161 @@ impl<S> Part<S> {
         let low = later(low, self.from.items());
         let high = earlier(high, until);
         tally.count(alloc, &mut self.store, low, high, cap)
+    }
+
+    // Whether the part, which ends before the next one's first key, has the key.
+    fn has(&self, key: &[u8], until: &Option<Bytes>) -> bool
+        ensures { result ≡ asking.lies self.now.from until.now key.now }
+    {
+        self.from.items().cmp(key).is_le()
+            && match until {
+                Some(until) => key.cmp(until.items()).is_lt(),
+                None => true,
+            }
+    }
+
+    // A copy of the key, where the part has it.
+    fn own_key(
+        &self,
+        alloc: Global,
+        key: &Option<Bytes>,
+        until: &Option<Bytes>,
+    ) -> Result<Option<Bytes>, NoMem>
+        ensures { IfOk result (λ own. own ≡ asking.own_key self.now.from until.now key.now) }
+    {
+        let Some(key) = key else {
+            return Ok(None);
+        };
+        if self.has(key.items(), until) {
+            Ok(Some(Bytes::of_bytes(alloc, key.items())?))
+        } else {
+            Ok(None)
+        }
+    }
+
+    // The keys that the part has, each at its place.
+    fn own_keys(
+        &self,
+        alloc: Global,
+        keys: &[Option<Bytes>],
+        until: &Option<Bytes>,
+    ) -> Result<List<Option<Bytes>>, NoMem>
+        ensures { IfOk result (λ own. own ≡ map (asking.own_key self.now.from until.now) keys.now) }
+    {
+        let mut own = List::new(alloc);
+        for key in keys {
+            let asked = self.own_key(alloc, key, until)?;
+            own.push(alloc, asked)?;
+        }
+        Ok(own)
+    }
+
+    // Puts the values of the keys that the part has at their places: one call of the node or none.
+    pub(crate) fn gets<N: Ledger>(
+        &mut self,
+        alloc: Global,
+        keys: &[Option<Bytes>],
+        until: &Option<Bytes>,
+        found: &mut Vec<Option<Bytes>>,
+        tally: &mut Tally<N>,
+    ) -> Result<(), StoreErr>
+    where
+        S: Store<N>,
+        requires few { length keys.now < 2 ^ 32 }
+        requires long { length found.old.items ≡ length keys.now }
+        ensures put { OnOk result (asking.AreAnswersPut (asking.IsTold (S.content self.old.store))
+            (map (asking.own_key self.old.from until.now) keys.now) found.old.items found.new.items) }
+        ensures from { self.new.from ≡ self.old.from }
+        ensures same { S.content self.new.store ≡ S.content self.old.store }
+        ensures cause { HasCause (S.faults self.old.store) (S.faults self.new.store) result }
+        ensures round { S.rounds self.new.store ≤ S.rounds self.old.store + 1 }
+    {
+        let own = self.own_keys(alloc, keys, until)?;
+        if number_of(own.items()) == 0 {
+            return Ok(());
+        }
+        let values = tally.gets(alloc, &mut self.store, own.items())?;
+        put_answers(own.items(), values, found);
+        Ok(())
+    }
+
+    // Whether the part has all keys of the range.
+    fn covers(&self, low: &[u8], high: &[u8], until: &Option<Bytes>) -> bool
+        ensures { result ≡ asking.covers_range self.now.from until.now low.now high.now }
+    {
+        self.from.items().cmp(low).is_le()
+            && match until {
+                Some(until) => high.cmp(until.items()).is_le(),
+                None => true,
+            }
+    }
+
+    // A copy of the range, where the part has all its keys.
+    fn own_ask(
+        &self,
+        alloc: Global,
+        asked: &Option<Ends>,
+        until: &Option<Bytes>,
+    ) -> Result<Option<Ends>, NoMem>
+        ensures { IfOk result (λ own. own ≡ asking.own_ask self.now.from until.now asked.now) }
+    {
+        let Some(ends) = asked else {
+            return Ok(None);
+        };
+        if self.covers(ends.low.items(), ends.high.items(), until) {
+            let low = Bytes::of_bytes(alloc, ends.low.items())?;
+            let high = Bytes::of_bytes(alloc, ends.high.items())?;
+            Ok(Some(Ends { low, high }))
+        } else {
+            Ok(None)
+        }
+    }
+
+    // The ranges that lie in the part's keys, each at its place.
+    fn own_asks(
+        &self,
+        alloc: Global,
+        asks: &[Option<Ends>],
+        until: &Option<Bytes>,
+    ) -> Result<List<Option<Ends>>, NoMem>
+        ensures { IfOk result (λ own. own ≡ map (asking.own_ask self.now.from until.now) asks.now) }
+    {
+        let mut own = List::new(alloc);
+        for asked in asks {
+            let ends = self.own_ask(alloc, asked, until)?;
+            own.push(alloc, ends)?;
+        }
+        Ok(own)
+    }
+
+    // Puts the pairs of the ranges that lie in the part's keys at their places: one call of the node or none.
+    pub(crate) fn put_pairs<N: Ledger>(
+        &mut self,
+        alloc: Global,
+        asks: &[Option<Ends>],
+        limit: u32,
+        until: &Option<Bytes>,
+        found: &mut Vec<List<Pair>>,
+        tally: &mut Tally<N>,
+    ) -> Result<(), StoreErr>
+    where
+        S: Store<N>,
+        requires limit { 1 ≤ limit }
+        requires few { length asks.now * limit < 2 ^ 32 }
+        requires long { length found.old.items ≡ length asks.now }
+        ensures put { OnOk result (asking.AreAnswersPut (asking.ArePairsTold (S.content self.old.store) limit)
+            (map (asking.own_ask self.old.from until.now) asks.now) found.old.items found.new.items) }
+        ensures from { self.new.from ≡ self.old.from }
+        ensures same { S.content self.new.store ≡ S.content self.old.store }
+        ensures cause { HasCause (S.faults self.old.store) (S.faults self.new.store) result }
+        ensures round { S.rounds self.new.store ≤ S.rounds self.old.store + 1 }
+    {
+        let own = self.own_asks(alloc, asks, until)?;
+        if number_of(own.items()) == 0 {
+            return Ok(());
+        }
+        let parts = tally.ranges(alloc, &mut self.store, own.items(), limit)?;
+        put_answers(own.items(), parts, found);
+        Ok(())
     }
 }

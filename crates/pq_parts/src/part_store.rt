@@ -1,14 +1,19 @@
 //! The store over parts.
-ghost use Rattle.std.specs.Prelude.{◌≡◌, ◌≤◌, ◌<◌, ◌+◌, ◌++◌, ◌⊎◌, ◌↔◌, IfSome, IfOk, IfErr, IsOk, OnOk, IsErrOf, OnErr, IsTrue, map, take, drop, length, min};
+ghost use Rattle.std.specs.Prelude.{◌≡◌, ◌≤◌, ◌<◌, ◌+◌, ◌*◌, ◌^◌, ◌++◌, ◌⊎◌, ◌↔◌, IfSome, IfOk, IfErr, IsOk, OnOk, IsErrOf, OnErr, IsTrue, map, take, drop, length, min, sum_by, None, true, false, ⊤};
+ghost use Rattle.std.specs.List.{AllZip};
 ghost use Rattle.std.specs.Option.{option_map, option_copied};
 ghost use Rattle.std.specs.FinMap.{get as value_at};
-ghost use Rattle.pq_store.specs.Counts.{charged_counts};
+ghost use Rattle.pq_store.specs.Counts.{charged_counts, raised_counts};
+ghost use Rattle.pq_store.specs.Rounds.{Affords, Pays, IsValueOf, IsValueAnswered, ArePairsOf, IsPartAsked, one_if_some};
 ghost use Rattle.pq_store.specs.Content.{entry, pairs_within, after_write, admits, got_entries, ranged_entries, counted_entries, IsPartOf, HasCause};
 ghost use Rattle.pq_parts.specs.Tally.{counted_call, HasAsked};
 ghost use Rattle.pq_parts.specs.Spans.{IsPlacement, part_has_key, first_from, firsts, spans, joined_content, number_met, faults_of};
 ghost use Rattle.pq_parts.specs.Gathered.{IsGathered, IsPieceAt, IsCountAt};
+ghost use Rattle.pq_parts.specs.Asking.{IsGetsAt, IsRangesAt, AreFoundBut, ArePairsTold, is_spread, is_end_within, rounds_of};
 
+use crate::asking::{entries_of, number_of};
 use crate::part::Part;
+use crate::payment::pay_round;
 use crate::placing::are_placed;
 use crate::tally::Tally;
 use pq_base::{Bytes, List, NoMem};
@@ -256,6 +261,227 @@ impl<S: Store<N>, N: Ledger> PartStore<S, N> {
     {
         self.parts[at].count(alloc, low, high, until, cap, &mut self.tally)
     }
+
+    // The values of the keys: each part that has some is asked once.
+    fn fetch(
+        &mut self,
+        alloc: Global,
+        keys: &[Option<Bytes>],
+    ) -> Result<List<Option<Bytes>>, StoreErr>
+        requires { length keys.now < 2 ^ 32 }
+        ensures answer { IfOk result (AllZip (IsValueOf (joined_content (spans S.content self.old.parts))) keys.now) }
+        ensures answered { IfOk result (AllZip (IsValueAnswered (λ _ _. ⊤)) keys.now) }
+        ensures same { spans S.content self.new.parts ≡ spans S.content self.old.parts }
+        ensures cause { HasCause (faults_of S.faults self.old.parts) (faults_of S.faults self.new.parts) result }
+        ensures rounds { rounds_of S.rounds self.new.parts
+            ≤ rounds_of S.rounds self.old.parts + length self.old.parts }
+    {
+        let mut found = no_values(alloc, keys)?.into_vec();
+        for at in 0..self.parts.len() {
+            self.gets_at(alloc, at, keys, &mut found)?;
+        }
+        Ok(List::from_vec(found))
+    }
+
+    // Puts the values of the keys that the part at this place has at their places.
+    fn gets_at(
+        &mut self,
+        alloc: Global,
+        at: usize,
+        keys: &[Option<Bytes>],
+        found: &mut Vec<Option<Bytes>>,
+    ) -> Result<(), StoreErr>
+        requires within { at < length self.old.parts }
+        requires few { length keys.now < 2 ^ 32 }
+        requires long { length found.old.items ≡ length keys.now }
+        ensures put { OnOk result (IsGetsAt (spans S.content self.old.parts) at keys.now found.old.items
+            found.new.items) }
+        ensures same { spans S.content self.new.parts ≡ spans S.content self.old.parts }
+        ensures cause { HasCause (faults_of S.faults self.old.parts) (faults_of S.faults self.new.parts) result }
+        ensures places { firsts self.new.parts ≡ firsts self.old.parts }
+        ensures round { rounds_of S.rounds self.new.parts ≤ rounds_of S.rounds self.old.parts + 1 }
+    {
+        match self.end_of(alloc, at) {
+            Ok(until) => self.ask_gets(alloc, at, keys, &until, found),
+            Err(_) => Err(StoreErr::NoMem),
+        }
+    }
+
+    // Puts the values of the keys that the part at this place, which ends there, has at their places.
+    fn ask_gets(
+        &mut self,
+        alloc: Global,
+        at: usize,
+        keys: &[Option<Bytes>],
+        until: &Option<Bytes>,
+        found: &mut Vec<Option<Bytes>>,
+    ) -> Result<(), StoreErr>
+        requires within { at < length self.old.parts }
+        requires end { until.now ≡ first_from (drop (at + 1) self.old.parts) }
+        requires few { length keys.now < 2 ^ 32 }
+        requires long { length found.old.items ≡ length keys.now }
+        ensures put { OnOk result (IsGetsAt (spans S.content self.old.parts) at keys.now found.old.items
+            found.new.items) }
+        ensures same { spans S.content self.new.parts ≡ spans S.content self.old.parts }
+        ensures cause { HasCause (faults_of S.faults self.old.parts) (faults_of S.faults self.new.parts) result }
+        ensures places { firsts self.new.parts ≡ firsts self.old.parts }
+        ensures round { rounds_of S.rounds self.new.parts ≤ rounds_of S.rounds self.old.parts + 1 }
+    {
+        self.parts[at].gets(alloc, keys, until, found, &mut self.tally)
+    }
+
+    // The pairs of the ranges: each part that has all keys of some is asked once for those.
+    fn fetch_parts(
+        &mut self,
+        alloc: Global,
+        asks: &[Option<Ends>],
+        limit: u32,
+    ) -> Result<List<List<Pair>>, StoreErr>
+        requires limit { 1 ≤ limit }
+        requires few { length asks.now * limit < 2 ^ 32 }
+        ensures answer { IfOk result (AllZip (ArePairsOf (joined_content (spans S.content self.old.parts)) limit)
+            asks.now) }
+        ensures parts { IfOk result (AllZip (IsPartAsked limit) asks.now) }
+        ensures same { spans S.content self.new.parts ≡ spans S.content self.old.parts }
+        ensures cause { HasCause (faults_of S.faults self.old.parts) (faults_of S.faults self.new.parts) result }
+    {
+        let spread = self.spread_parts(alloc, asks, limit)?;
+        let mut found = spread.into_vec();
+        for at in 0..self.parts.len() {
+            self.ranges_at(alloc, at, asks, limit, &mut found)?;
+        }
+        Ok(List::from_vec(found))
+    }
+
+    // The pairs of the ranges that lie in no part alone, and none of the others.
+    fn spread_parts(
+        &mut self,
+        alloc: Global,
+        asks: &[Option<Ends>],
+        limit: u32,
+    ) -> Result<List<List<Pair>>, StoreErr>
+        ensures found { IfOk result (AllZip (AreFoundBut (joined_content (spans S.content self.old.parts))
+            (spans S.content self.old.parts) limit) asks.now) }
+        ensures same { spans S.content self.new.parts ≡ spans S.content self.old.parts }
+        ensures places { firsts self.new.parts ≡ firsts self.old.parts }
+        ensures cause { HasCause (faults_of S.faults self.old.parts) (faults_of S.faults self.new.parts) result }
+    {
+        let mut found = List::new(alloc);
+        for asked in asks {
+            let pairs = self.spread_pairs(alloc, asked, limit)?;
+            found.push(alloc, pairs)?;
+        }
+        Ok(found)
+    }
+
+    // The pairs of the range, where it lies in no part alone.
+    fn spread_pairs(
+        &mut self,
+        alloc: Global,
+        asked: &Option<Ends>,
+        limit: u32,
+    ) -> Result<List<Pair>, StoreErr>
+        ensures found { IfOk result (AreFoundBut (joined_content (spans S.content self.old.parts))
+            (spans S.content self.old.parts) limit asked.now) }
+        ensures same { spans S.content self.new.parts ≡ spans S.content self.old.parts }
+        ensures places { firsts self.new.parts ≡ firsts self.old.parts }
+        ensures cause { HasCause (faults_of S.faults self.old.parts) (faults_of S.faults self.new.parts) result }
+    {
+        match asked {
+            Some(ends) => self.spread_range(alloc, ends, limit),
+            None => Ok(List::new(alloc)),
+        }
+    }
+
+    // The pairs of the range, where no part has all its keys; else none.
+    fn spread_range(
+        &mut self,
+        alloc: Global,
+        ends: &Ends,
+        limit: u32,
+    ) -> Result<List<Pair>, StoreErr>
+        ensures found { IfOk result (λ found. is_spread (spans S.content self.old.parts) ends.now ≡ true
+            → ArePairsTold (joined_content (spans S.content self.old.parts)) limit ends.now found) }
+        ensures same { spans S.content self.new.parts ≡ spans S.content self.old.parts }
+        ensures places { firsts self.new.parts ≡ firsts self.old.parts }
+        ensures cause { HasCause (faults_of S.faults self.old.parts) (faults_of S.faults self.new.parts) result }
+    {
+        if self.lies_in_one(ends) {
+            return Ok(List::new(alloc));
+        }
+        self.collect(alloc, ends.low.items(), ends.high.items(), limit)
+    }
+
+    // Whether a part has all keys of the range.
+    fn lies_in_one(&self, ends: &Ends) -> bool
+        ensures { (content : _) → IsTrue result → is_spread (spans content self.now.parts) ends.now ≡ false }
+    {
+        let at = self.place(ends.low.items());
+        self.ends_before(at, ends.high.items())
+    }
+
+    // Whether a range with this end goes no further than the part at this place.
+    fn ends_before(&self, at: usize, high: &[u8]) -> bool
+        requires { at < length self.now.parts }
+        ensures { result ≡ is_end_within high.now (first_from (drop (at + 1) self.now.parts)) }
+    {
+        match self.parts.get(at + 1) {
+            Some(next) => high.cmp(next.from.items()).is_le(),
+            None => true,
+        }
+    }
+
+    // Puts the pairs of the ranges that lie in the keys of the part at this place at their places.
+    fn ranges_at(
+        &mut self,
+        alloc: Global,
+        at: usize,
+        asks: &[Option<Ends>],
+        limit: u32,
+        found: &mut Vec<List<Pair>>,
+    ) -> Result<(), StoreErr>
+        requires within { at < length self.old.parts }
+        requires limit { 1 ≤ limit }
+        requires few { length asks.now * limit < 2 ^ 32 }
+        requires long { length found.old.items ≡ length asks.now }
+        ensures put { OnOk result (IsRangesAt (spans S.content self.old.parts) at limit asks.now found.old.items
+            found.new.items) }
+        ensures same { spans S.content self.new.parts ≡ spans S.content self.old.parts }
+        ensures cause { HasCause (faults_of S.faults self.old.parts) (faults_of S.faults self.new.parts) result }
+        ensures places { firsts self.new.parts ≡ firsts self.old.parts }
+        ensures round { rounds_of S.rounds self.new.parts ≤ rounds_of S.rounds self.old.parts + 1 }
+    {
+        match self.end_of(alloc, at) {
+            Ok(until) => self.ask_ranges(alloc, at, asks, limit, &until, found),
+            Err(_) => Err(StoreErr::NoMem),
+        }
+    }
+
+    // Puts the pairs of the ranges that lie in the keys of the part at this place, which ends there, at
+    // their places.
+    fn ask_ranges(
+        &mut self,
+        alloc: Global,
+        at: usize,
+        asks: &[Option<Ends>],
+        limit: u32,
+        until: &Option<Bytes>,
+        found: &mut Vec<List<Pair>>,
+    ) -> Result<(), StoreErr>
+        requires within { at < length self.old.parts }
+        requires end { until.now ≡ first_from (drop (at + 1) self.old.parts) }
+        requires limit { 1 ≤ limit }
+        requires few { length asks.now * limit < 2 ^ 32 }
+        requires long { length found.old.items ≡ length asks.now }
+        ensures put { OnOk result (IsRangesAt (spans S.content self.old.parts) at limit asks.now found.old.items
+            found.new.items) }
+        ensures same { spans S.content self.new.parts ≡ spans S.content self.old.parts }
+        ensures cause { HasCause (faults_of S.faults self.old.parts) (faults_of S.faults self.new.parts) result }
+        ensures places { firsts self.new.parts ≡ firsts self.old.parts }
+        ensures round { rounds_of S.rounds self.new.parts ≤ rounds_of S.rounds self.old.parts + 1 }
+    {
+        self.parts[at].put_pairs(alloc, asks, limit, until, found, &mut self.tally)
+    }
 }
 
 // Puts the pairs behind those that were found. After an error some of them are there.
@@ -266,6 +492,17 @@ fn append(alloc: Global, found: &mut List<Pair>, piece: List<Pair>) -> Result<()
         found.push(alloc, pair)?;
     }
     Ok(())
+}
+
+// No value for each of the keys.
+fn no_values(alloc: Global, keys: &[Option<Bytes>]) -> Result<List<Option<Bytes>>, NoMem>
+    ensures { IfOk result (λ found. found ≡ map (λ _. None) keys.now) }
+{
+    let mut found = List::new(alloc);
+    for _asked in keys {
+        found.push(alloc, None)?;
+    }
+    Ok(found)
 }
 
 impl<S: Store<N>, N: Ledger, L: Ledger> Store<L> for PartStore<S, N> {
@@ -397,16 +634,47 @@ impl<S: Store<N>, N: Ledger, L: Ledger> Store<L> for PartStore<S, N> {
             .write(alloc, &mut self.parts[at].store, key, guard, new)
     }
 
+    /// One call of `gets` for each node that has some of the keys: a round over n nodes is at most n
+    /// rounds of theirs. After a fault each key counts as an operation. Of keys whose number has more
+    /// than 32 bits, which no bound allows, each is asked alone.
     fn gets(
         &mut self,
         alloc: Global,
         keys: &[Option<Bytes>],
         allowance: &mut Allowance,
         meter: &mut Meter<L>,
-    ) -> Result<List<Option<Bytes>>, StoreErr> {
-        self.gets_singly(alloc, keys, allowance, meter)
+    ) -> Result<List<Option<Bytes>>, StoreErr>
+        requires share { Affords allowance.old (length keys.now) (length keys.now) }
+        ensures answer { IfOk result (AllZip (IsValueOf (joined_content (spans S.content self.old.parts))) keys.now) }
+        ensures answered { IfOk result (AllZip (IsValueAnswered (λ _ _. ⊤)) keys.now) }
+        ensures same { joined_content (spans S.content self.new.parts)
+            ≡ joined_content (spans S.content self.old.parts) }
+        ensures cause { HasCause (faults_of S.faults self.old.parts) (faults_of S.faults self.new.parts) result }
+        ensures paid { Pays allowance.old allowance.new meter.old meter.new (length keys.now) (length keys.now) }
+        ensures counted { IfOk result (λ found. meter.new ≡ raised_counts meter.old (sum_by one_if_some keys.now)
+            (sum_by one_if_some found)) }
+        ensures rounds { length keys.now < 2 ^ 32 → rounds_of S.rounds self.new.parts
+            ≤ rounds_of S.rounds self.old.parts + length self.old.parts }
+    {
+        if keys.len() > u32::MAX as usize {
+            return self.gets_singly(alloc, keys, allowance, meter);
+        }
+        match self.fetch(alloc, keys) {
+            Ok(found) => {
+                pay_round(keys, number_of(found.items()) as u32, allowance, meter);
+                Ok(found)
+            }
+            Err(error) => {
+                pay_round(keys, 0, allowance, meter);
+                Err(error)
+            }
+        }
     }
 
+    /// One call of `ranges` for each node that has all keys of some of them: a round over n nodes is at
+    /// most n rounds of theirs, and one call more for each part that a range meets which lies in no
+    /// part alone. After a fault each range counts as an operation. Of ranges that may have more pairs
+    /// than a number of 32 bits tells, which no bound allows, each is asked alone.
     fn ranges(
         &mut self,
         alloc: Global,
@@ -415,9 +683,23 @@ impl<S: Store<N>, N: Ledger, L: Ledger> Store<L> for PartStore<S, N> {
         allowance: &mut Allowance,
         meter: &mut Meter<L>,
     ) -> Result<List<List<Pair>>, StoreErr> {
-        self.ranges_singly(alloc, asks, limit, allowance, meter)
+        if asks.len() as u128 * limit as u128 > u32::MAX as u128 {
+            return self.ranges_singly(alloc, asks, limit, allowance, meter);
+        }
+        match self.fetch_parts(alloc, asks, limit) {
+            Ok(found) => {
+                pay_round(asks, entries_of(found.items()), allowance, meter);
+                Ok(found)
+            }
+            Err(error) => {
+                pay_round(asks, 0, allowance, meter);
+                Err(error)
+            }
+        }
     }
 
+    /// Each test by a call of its own, up to the one that holds: as many rounds of the nodes as tests
+    /// are made, and more where a range meets several parts.
     fn first_held(
         &mut self,
         alloc: Global,

@@ -1,12 +1,15 @@
 //! The calls of nodes, counted: the meter, and beside it numbers that a program can read.
-ghost use Rattle.std.specs.Prelude.{◌≡◌, ◌⊎◌, IfSome, IfOk, OnOk, IsErrOf, ◌≤◌, map, take, length, min};
+ghost use Rattle.std.specs.Prelude.{◌≡◌, ◌⊎◌, IfSome, IfOk, OnOk, IsErrOf, ◌≤◌, ◌<◌, ◌+◌, ◌*◌, ◌^◌, map, take, length, min, sum_by};
+ghost use Rattle.std.specs.List.{AllZip};
 ghost use Rattle.std.specs.Option.{option_map, option_copied};
 ghost use Rattle.std.specs.FinMap.{get as value_at};
 ghost use Rattle.pq_store.specs.Content.{entry, pairs_within, after_write, admits, got_entries, ranged_entries, counted_entries, IsPartOf, HasCause};
+ghost use Rattle.pq_store.specs.Counts.{used_of};
+ghost use Rattle.pq_store.specs.Rounds.{IsValueOf, ArePairsOf, IsPartAsked, one_if_some};
 ghost use Rattle.pq_parts.specs.Tally.{raised_number, counted_call};
 
-use pq_base::{Bytes, List};
-use pq_store::{Guard, Meter, Pair, Store, StoreErr};
+use pq_base::{Bound, Bytes, List};
+use pq_store::{Allowance, Ends, Guard, Meter, Pair, Store, StoreErr};
 use std::alloc::Global;
 use std::marker::Model;
 use std::sync::ledger::Ledger;
@@ -163,5 +166,71 @@ impl<N: Ledger> Tally<N> {
         let done = node.write(alloc, key, guard, new, &mut self.meter);
         self.note(0);
         done
+    }
+
+    // Raises the numbers beside the meter by what was spent.
+    fn note_spent(&mut self, allowance: Allowance)
+        ensures meter { self.new.nodes ≡ self.old.nodes }
+        ensures ops { self.new.ops ≡ raised_number self.old.ops (used_of allowance).ops }
+        ensures entries { self.new.entries ≡ raised_number self.old.entries (used_of allowance).entries }
+    {
+        let used = allowance.used();
+        self.ops = raised(self.ops, used.ops);
+        self.entries = raised(self.entries, used.entries);
+    }
+
+    /// The node's `gets`: one call of it, which counts as one for each key.
+    pub fn gets<S: Store<N>>(
+        &mut self,
+        alloc: Global,
+        node: &mut S,
+        keys: &[Option<Bytes>],
+    ) -> Result<List<Option<Bytes>>, StoreErr>
+        requires { length keys.now < 2 ^ 32 }
+        ensures long { IfOk result (λ found. length found ≡ length keys.now) }
+        ensures answer { IfOk result (AllZip (IsValueOf (S.content node.old)) keys.now) }
+        ensures same { S.content node.new ≡ S.content node.old }
+        ensures cause { HasCause (S.faults node.old) (S.faults node.new) result }
+        ensures round { S.rounds node.new ≤ S.rounds node.old + 1 }
+        ensures counts { IfOk result (λ found. self.new
+            ≡ counted_call self.old (sum_by one_if_some keys.now) (sum_by one_if_some found)) }
+    {
+        let most = keys.len() as u128;
+        let mut allowance = Allowance::grant(Bound {
+            ops: most,
+            entries: most,
+        });
+        let found = node.gets(alloc, keys, &mut allowance, &mut self.meter);
+        self.note_spent(allowance);
+        found
+    }
+
+    /// The node's `ranges`: one call of it, which counts as one for each range.
+    pub fn ranges<S: Store<N>>(
+        &mut self,
+        alloc: Global,
+        node: &mut S,
+        asks: &[Option<Ends>],
+        limit: u32,
+    ) -> Result<List<List<Pair>>, StoreErr>
+        requires limit { 1 ≤ limit }
+        requires few { length asks.now * limit < 2 ^ 32 }
+        ensures long { IfOk result (λ found. length found ≡ length asks.now) }
+        ensures answer { IfOk result (AllZip (ArePairsOf (S.content node.old) limit) asks.now) }
+        ensures parts { IfOk result (AllZip (IsPartAsked limit) asks.now) }
+        ensures same { S.content node.new ≡ S.content node.old }
+        ensures cause { HasCause (S.faults node.old) (S.faults node.new) result }
+        ensures round { S.rounds node.new ≤ S.rounds node.old + 1 }
+        ensures counts { IfOk result (λ found. self.new
+            ≡ counted_call self.old (sum_by one_if_some asks.now) (sum_by length found)) }
+    {
+        let most = asks.len() as u128;
+        let mut allowance = Allowance::grant(Bound {
+            ops: most,
+            entries: most * limit as u128,
+        });
+        let found = node.ranges(alloc, asks, limit, &mut allowance, &mut self.meter);
+        self.note_spent(allowance);
+        found
     }
 }

@@ -1,0 +1,13 @@
+use Rattle.std.proofs.Common.{◌≡◌, ◌≤◌, length, drop}
+use Rattle.std.specs.List.{AllZip}
+use Rattle.pq_parts.specs.Spans.{spans, faults_of, joined_content}
+use Rattle.pq_parts.specs.Asking.{AreFoundBut}
+use Rattle.pq_parts.proofs.part_store.PartStore.fetch_parts.Given as goal
+
+abbrev pub invariant-loop-at : goal.invariant-loop-at
+invariant-loop-at g l = record {
+  long : length l.self.parts ≡ l.at-end;
+  same : spans g.S.Store.content l.self.parts ≡ spans g.S.Store.content l.fn.self.parts;
+  faults : faults_of g.S.Store.faults l.fn.self.parts ≤ faults_of g.S.Store.faults l.self.parts;
+  found : AllZip (AreFoundBut (joined_content (spans g.S.Store.content l.fn.self.parts)) (drop l.at (spans g.S.Store.content l.fn.self.parts)) l.limit) l.asks l.found.items;
+}

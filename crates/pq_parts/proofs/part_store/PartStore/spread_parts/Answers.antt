@@ -1,0 +1,29 @@
+use Rattle.std.proofs.Common.{◌+◌, List, take, sym, subst, arith, ◌∙◌}
+use Rattle.std.specs.List.{AllZip}
+use Rattle.pq_store.specs.declared.store.Pair.{Pair}
+use Rattle.pq_store.proofs.Rounds.{all_zip_more}
+use Rattle.pq_parts.specs.Spans.{Span, spans, joined_content}
+use Rattle.pq_parts.specs.Asking.{AreFoundBut}
+use Rattle.pq_parts.proofs.part_store.PartStore.spread_parts.Goals as goal
+
+pub loop-asked-preserved : goal.loop-asked-preserved
+loop-asked-preserved g c =
+    let content = g.S.Store.content in
+    let inv = c.loop-asked.invariant in
+    let one = c.in_ok-pairs.ensures in
+    let i = c.loop-asked.asked-index in
+    let asks = c.args.asks.now in
+    let limit = c.args.limit in
+    let list = spans content c.args.self.now.parts in
+    let pairs = c.in_ok-pairs.pairs in
+    let before = inv.faults in
+    let later = one.cause.later in
+    let here : AreFoundBut (joined_content list) list limit c.asked-item.result pairs =
+    subst (λ (l : List Span). AreFoundBut (joined_content l) l limit c.asked-item.result pairs) inv.same one.found in
+    record {
+      same = one.same ∙ inv.same;
+      places = one.places ∙ inv.places;
+      faults = omega (arith, before, later);
+      found = subst (λ (l : List (List Pair)). AllZip (AreFoundBut (joined_content list) list limit) (take (i + 1) asks) l) (sym c.in_ok-push.ensures.ok)
+          (all_zip_more (AreFoundBut (joined_content list) list limit) asks c.loop-asked.found i c.asked-item.result pairs c.loop-asked-test.true c.asked-item.is inv.found here);
+    }

@@ -1,0 +1,13 @@
+use Rattle.pq_parts.specs.Spans.{spans, joined_content}
+use Rattle.pq_parts.proofs.Ranged.{not_spread, spread_result}
+use Rattle.pq_parts.proofs.part_store.PartStore.spread_range.Goals as goal
+
+pub returns-then-lies_in_one-clause-found : goal.returns-then-lies_in_one-clause-found
+returns-then-lies_in_one-clause-found g c =
+    let list = spans g.S.Store.content c.args.self.now.parts in
+    not_spread (joined_content list) list c.args.limit c.args.ends.now _ (c.lies_in_one.ensures g.S.Store.content c.if-lies_in_one.true)
+
+pub returns-clause-found : goal.returns-clause-found
+returns-clause-found g c =
+    let list = spans g.S.Store.content c.args.self.now.parts in
+    spread_result (joined_content list) list c.args.limit c.args.ends.now _ _ c.collect.result c.items.ensures c.items-2.ensures c.collect.ensures.answer c.collect.ensures.part
