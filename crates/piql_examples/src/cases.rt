@@ -16,11 +16,12 @@
 //!   store writes `answer` where it `asks`: of both one `part`, or all.
 //! - `twice`: the run is stopped so, and then each of so many calls that it `tries` of the opening fails too, which has
 //!   as many as `opening` says.
+//! - `rounds`: over what `ground` leaves the `part` of `asks` asks the store so many times (`rounds`), beside the opening.
 //! - `switch`: as `ends`, over `ground` and the rows of `first` for so many `calls`, and then those of `second`.
 ghost use Rattle.std.specs.Prelude.{◌≡◌};
 
 use crate::texts::{Texts, texts_of};
-use crate::{contents, cuts, ends, io_result, parted, stops, switched};
+use crate::{contents, cuts, ends, io_result, parted, rounds, stops, switched};
 use pq_base::NoMem;
 use pq_store::{Meter, Opening};
 use std::alloc::Global;
@@ -58,6 +59,7 @@ fn holds<L: Ledger>(
         "content" => contents::is_as_written(alloc, cells, texts, &mut meter),
         "stop" => stops::is_as_written(alloc, cells, texts, &mut meter),
         "twice" => stops::is_twice_as_written(alloc, cells, texts, &mut meter),
+        "rounds" => rounds::is_as_written(alloc, cells, texts, &mut meter),
         "switch" => switched::is_as_written(alloc, cells, texts, &mut meter),
         _ => Ok(false),
     }

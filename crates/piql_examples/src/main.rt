@@ -11,6 +11,7 @@ mod examples;
 mod parted;
 mod parts;
 mod reports;
+mod rounds;
 mod stops;
 mod switched;
 mod texts;

@@ -20,8 +20,8 @@ fn fail_of(cells: &[&str]) -> Fail {
     }
 }
 
-// The store that the ground leaves. Nothing is run where there is none.
-fn ground_of<L: Ledger>(
+/// The store that the ground leaves. Nothing is run where there is none.
+pub fn ground_of<L: Ledger>(
     alloc: Global,
     ground: &[u8],
     meter: &mut Meter<L>,
