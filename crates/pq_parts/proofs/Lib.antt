@@ -9,3 +9,4 @@ pub mod Nodes
 pub mod Gather
 pub mod Fetched
 pub mod Ranged
+pub mod InRow

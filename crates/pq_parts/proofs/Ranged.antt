@@ -86,7 +86,7 @@ append_none [] = refl
 append_none (x ∷ xs) = ap (λ rest. x ∷ rest) (append_none xs)
 
 -- what the part has of the range is what all have
-within_at : (list : List Span) → LinkedSpans list → (at : ℕ) (ends : Ends) → covers_at list at ends ≡ true → (span : Span) → span ≡ get_or list at span
+pub within_at : (list : List Span) → LinkedSpans list → (at : ℕ) (ends : Ends) → covers_at list at ends ≡ true → (span : Span) → span ≡ get_or list at span
     → (pairs : Pairs) → concatenation list ≡ Some pairs → (content : Content) × (span.held ≡ Some content) × (filter (is_within ends.low ends.high) pairs ≡ pairs_within content ends.low ends.high)
 within_at [] none at ends has span here pairs is = absurd (cc)
 within_at (first ∷ list) (link _ _ until ahead links) zero ends has span here pairs is =

@@ -1,14 +1,16 @@
 -- What nodes are asked together: each its own questions, whose answers go back to their places.
 use Rattle.std.specs.Prelude.{◌≡◌, ℕ, zero, suc, ◌+◌, ◌&&◌, Bool, true, false, List, [], ◌∷◌, map, take, drop, Option, Some, None, IfSome, if◌then◌else◌}
 use Rattle.std.specs.Ordering.{is_le}
-use Rattle.std.specs.List.{sum_by}
+use Rattle.std.specs.List.{AllByRecursion, sum_by}
 use Rattle.std.specs.FinMap.{get}
 use Rattle.pq_store.specs.declared.store.Ends.{Ends}
 use Rattle.pq_store.specs.declared.store.Pair.{Pair}
+use Rattle.pq_store.specs.declared.store.Test.{Test}
+use Rattle.pq_store.specs.declared.store.Test.TheVariants.{Has, Lacks, Full}
 use Rattle.pq_store.specs.Content.{Content, key_cmp, entry, pairs_within, IsPartOf}
 use Rattle.pq_parts.specs.declared.part.Part.{Part}
 use Rattle.pq_parts.specs.Clips.{is_key_before}
-use Rattle.pq_parts.specs.Spans.{Span}
+use Rattle.pq_parts.specs.Spans.{Span, first_from, part_has_key}
 
 -- the answers of what was asked, in the places of what stood there
 abbrev pub put_answers : {Q A : Type 0} → List (Option Q) → List A → List A → List A
@@ -93,3 +95,12 @@ pub record IsRangesAt (spans : List Span) (at : ℕ) (limit : ℕ) (asks : List 
   pub span : Span
   pub cut : drop at spans ≡ span ∷ drop (at + 1) spans
   pub put : AreAnswersPut (ArePairsTold span.held limit) (map (own_ask span.from span.until) asks) old new
+
+-- the part at the place answers the test alone: it has the key, or all keys of the range
+abbrev pub answers_test : {S : Type 0} → List (Part S) → ℕ → Test → Bool
+answers_test parts at (Has key) = part_has_key parts at key
+answers_test parts at (Lacks key) = part_has_key parts at key
+answers_test parts at (Full ends n) = part_has_key parts at ends.low && is_end_within ends.high (first_from (drop (at + 1) parts))
+
+abbrev pub AreAnswered : {S : Type 0} → List (Part S) → ℕ → List Test → Type 0
+AreAnswered parts at tests = AllByRecursion (λ test. answers_test parts at test ≡ true) tests

@@ -12,6 +12,7 @@ mod part;
 mod part_store;
 mod payment;
 mod placing;
+mod rows;
 mod tally;
 
 pub use part::Part;

@@ -13,7 +13,7 @@ ghost use Rattle.pq_parts.specs.Asking.{IsGetsAt, IsRangesAt, AreFoundBut, ArePa
 
 use crate::asking::{entries_of, number_of};
 use crate::part::Part;
-use crate::payment::pay_round;
+use crate::payment::{is_small, pay_round};
 use crate::placing::are_placed;
 use crate::tally::Tally;
 use pq_base::{Bytes, List, NoMem};
@@ -25,8 +25,8 @@ use std::sync::ledger::Ledger;
 /// A store over parts in the order of their keys. The calls of its nodes are counted on a meter of its own.
 #[derive(Drop)]
 pub struct PartStore<S, N: Ledger> {
-    parts: Vec<Part<S>>,
-    tally: Tally<N>,
+    pub(crate) parts: Vec<Part<S>>,
+    pub(crate) tally: Tally<N>,
 }
 
 impl<S, N: Ledger> Model for PartStore<S, N> {
@@ -74,7 +74,7 @@ impl<S, N: Ledger> PartStore<S, N> {
     }
 
     // The place of the part that has the key.
-    fn place(&self, key: &[u8]) -> usize
+    pub(crate) fn place(&self, key: &[u8]) -> usize
         ensures within { result < length self.now.parts }
         ensures has { IsTrue (part_has_key self.now.parts result key.now) }
     {
@@ -421,7 +421,7 @@ impl<S: Store<N>, N: Ledger> PartStore<S, N> {
     }
 
     // Whether a range with this end goes no further than the part at this place.
-    fn ends_before(&self, at: usize, high: &[u8]) -> bool
+    pub(crate) fn ends_before(&self, at: usize, high: &[u8]) -> bool
         requires { at < length self.now.parts }
         ensures { result ≡ is_end_within high.now (first_from (drop (at + 1) self.now.parts)) }
     {
@@ -698,8 +698,9 @@ impl<S: Store<N>, N: Ledger, L: Ledger> Store<L> for PartStore<S, N> {
         }
     }
 
-    /// Each test by a call of its own, up to the one that holds: as many rounds of the nodes as tests
-    /// are made, and more where a range meets several parts.
+    /// Tests in a row that one part answers alone are one call of its node, and a range that several parts
+    /// have is a count of each that it meets. Where more is left than a number of 32 bits tells, which no
+    /// bound allows, each test is made alone.
     fn first_held(
         &mut self,
         alloc: Global,
@@ -707,6 +708,25 @@ impl<S: Store<N>, N: Ledger, L: Ledger> Store<L> for PartStore<S, N> {
         allowance: &mut Allowance,
         meter: &mut Meter<L>,
     ) -> Result<Option<usize>, StoreErr> {
-        self.first_held_singly(alloc, tests, allowance, meter)
+        if !is_small(allowance) {
+            return self.first_held_singly(alloc, tests, allowance, meter);
+        }
+        let mut made = 0;
+        while made < tests.len() {
+            let Some(row) = self.first_row(&tests[made..]) else {
+                if self.holds(alloc, &tests[made], allowance, meter)? {
+                    return Ok(Some(made));
+                }
+                made += 1;
+                continue;
+            };
+            let end = made + row.len;
+            let held = self.row_held(alloc, row.at, &tests[made..end], allowance, meter)?;
+            if let Some(place) = held {
+                return Ok(Some(made + place));
+            }
+            made = end;
+        }
+        Ok(None)
     }
 }

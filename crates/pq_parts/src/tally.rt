@@ -1,15 +1,15 @@
 //! The calls of nodes, counted: the meter, and beside it numbers that a program can read.
-ghost use Rattle.std.specs.Prelude.{◌≡◌, ◌⊎◌, IfSome, IfOk, OnOk, IsErrOf, ◌≤◌, ◌<◌, ◌+◌, ◌*◌, ◌^◌, map, take, length, min, sum_by};
+ghost use Rattle.std.specs.Prelude.{◌≡◌, ◌⊎◌, IfSome, IfOk, OnOk, IsErrOf, ◌≤◌, ◌<◌, ◌+◌, ◌-◌, ◌*◌, ◌^◌, map, take, length, min, position, sum_by};
 ghost use Rattle.std.specs.List.{AllZip};
 ghost use Rattle.std.specs.Option.{option_map, option_copied};
 ghost use Rattle.std.specs.FinMap.{get as value_at};
 ghost use Rattle.pq_store.specs.Content.{entry, pairs_within, after_write, admits, got_entries, ranged_entries, counted_entries, IsPartOf, HasCause};
 ghost use Rattle.pq_store.specs.Counts.{used_of};
-ghost use Rattle.pq_store.specs.Rounds.{IsValueOf, ArePairsOf, IsPartAsked, one_if_some};
+ghost use Rattle.pq_store.specs.Rounds.{Affords, Pays, IsValueOf, ArePairsOf, IsPartAsked, AreTestsCounted, is_held, one_if_some, test_entries};
 ghost use Rattle.pq_parts.specs.Tally.{raised_number, counted_call};
 
 use pq_base::{Bound, Bytes, List};
-use pq_store::{Allowance, Ends, Guard, Meter, Pair, Store, StoreErr};
+use pq_store::{Allowance, Ends, Guard, Meter, Pair, Store, StoreErr, Test};
 use std::alloc::Global;
 use std::marker::Model;
 use std::sync::ledger::Ledger;
@@ -232,5 +232,42 @@ impl<N: Ledger> Tally<N> {
         let found = node.ranges(alloc, asks, limit, &mut allowance, &mut self.meter);
         self.note_spent(allowance);
         found
+    }
+
+    // Raises the numbers beside the meter by so many calls, and what they answered.
+    fn note_all(&mut self, ops: u64, entries: u64)
+        ensures meter { self.new.nodes ≡ self.old.nodes }
+        ensures ops { self.new.ops ≡ raised_number self.old.ops ops }
+        ensures entries { self.new.entries ≡ raised_number self.old.entries entries }
+    {
+        self.ops = raised(self.ops, ops);
+        self.entries = raised(self.entries, entries);
+    }
+
+    /// The node's `first_held`: one call of it, which counts as one for each test up to the one that holds.
+    pub fn first_held<S: Store<N>>(
+        &mut self,
+        alloc: Global,
+        node: &mut S,
+        tests: &[Test],
+        share: &mut Allowance,
+    ) -> Result<Option<usize>, StoreErr>
+        requires share { Affords share.old (length tests.now) (sum_by test_entries tests.now) }
+        ensures answer { IfOk result (λ at. IfSome (S.content node.old) (λ pairs. at ≡ position (is_held pairs) tests.now)) }
+        ensures within { IfOk result (λ at. IfSome at (λ i. i < length tests.now)) }
+        ensures same { S.content node.new ≡ S.content node.old }
+        ensures cause { HasCause (S.faults node.old) (S.faults node.new) result }
+        ensures round { S.rounds node.new ≤ S.rounds node.old + 1 }
+        ensures paid { Pays share.old share.new self.old.nodes self.new.nodes (length tests.now)
+            (sum_by test_entries tests.now) }
+        ensures counted { IfOk result (AreTestsCounted (S.content node.old) self.old.nodes self.new.nodes tests.now) }
+        ensures ops { self.new.ops ≡ raised_number self.old.ops (share.old.left.ops - share.new.left.ops) }
+        ensures entries { self.new.entries
+            ≡ raised_number self.old.entries (share.old.left.entries - share.new.left.entries) }
+    {
+        let (ops, entries) = (share.ops_left(), share.entries_left());
+        let held = node.first_held(alloc, tests, share, &mut self.meter);
+        self.note_all(ops - share.ops_left(), entries - share.entries_left());
+        held
     }
 }
