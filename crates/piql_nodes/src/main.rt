@@ -9,7 +9,7 @@ ghost use Rattle.pq_fill.specs.declared.words.Form.{Form};
 ghost use Rattle.pq_parts.specs.Spans.{faults_of};
 
 use pq_base::{Bytes, List, NoMem, PText};
-use pq_fill::form_of;
+use pq_fill::{Form as Asked, form_of};
 use pq_host::{HostReader, HostStore, HostWriter, Line, Link};
 use pq_parts::{Part, PartStore};
 use pq_shell::{Sink, Source, Status, StdSink, StdSource, WordsErr, read_words, run_piql};
@@ -24,26 +24,39 @@ fn link<'a>(rt: &HostRuntime, line: &'a Line) -> Link<'a, Stdin, Stdout> {
     Link::new(line, rt.stdin(), rt.stdout())
 }
 
+// Whether the host answers several questions at once. One that can't say is asked for one after the other, and where
+// the script is only checked it is asked for nothing.
+fn knows_rounds(rt: &HostRuntime, line: &Line, asked: Asked) -> bool {
+    match asked {
+        Asked::Check => false,
+        Asked::Run | Asked::Fill(_) => {
+            matches!(link(rt, line).knows_rounds(rt.alloc()), Ok(true))
+        }
+    }
+}
+
 // A part for each first key, in their order, whose nodes are numbered from 0.
 fn parts_of<'a>(
     rt: &HostRuntime,
     line: &'a Line,
     keys: List<Bytes>,
+    rounds: bool,
 ) -> Result<List<Part<HostStore<'a, Stdin, Stdout>>>, NoMem>
     requires { length keys ≤ 64 }
 {
     let mut parts = List::new(rt.alloc());
     for (node, from) in keys.into_vec().into_iter().enumerate() {
-        let store = HostStore::new(link(rt, line), node as u8, false);
+        let store = HostStore::new(link(rt, line), node as u8, rounds);
         parts.push(rt.alloc(), Part { from, store })?;
     }
     Ok(parts)
 }
 
-// The store over the host's nodes; the status of a run where there is none.
+// The store over the host's nodes, for what the words ask for; the status of a run where there is none.
 fn nodes_of<'a, N: Ledger + Drop>(
     rt: &HostRuntime,
     line: &'a Line,
+    asked: Asked,
     nodes: Meter<N>,
 ) -> Result<PartStore<HostStore<'a, Stdin, Stdout>, N>, Status>
     ensures { IfErr result (λ status. (status ≡ Status.NoMem) ⊎ (status ≡ Status.StoreFault)) }
@@ -53,7 +66,8 @@ fn nodes_of<'a, N: Ledger + Drop>(
         Err(StoreErr::NoMem) => return Err(Status::NoMem),
         Err(StoreErr::Failed) => return Err(Status::StoreFault),
     };
-    let parts = match parts_of(rt, line, keys) {
+    let rounds = knows_rounds(rt, line, asked);
+    let parts = match parts_of(rt, line, keys, rounds) {
         Ok(parts) => parts,
         Err(NoMem) => return Err(Status::NoMem),
     };
@@ -113,6 +127,7 @@ fn run_over<N: Ledger + Drop, L: Ledger>(
     nodes: Blank,
     blank: Blank,
     words: &[PText],
+    asked: Asked,
 ) -> Status
     requires nodes_name { nodes.name ≡ N.name }
     requires nodes_parts { nodes.parts ≡ N.parts }
@@ -124,7 +139,7 @@ fn run_over<N: Ledger + Drop, L: Ledger>(
 {
     let line = Line::new();
     let meter = Meter::<L>::start(Opening::of(blank));
-    match nodes_of(rt, &line, Meter::<N>::start(Opening::of(nodes))) {
+    match nodes_of(rt, &line, asked, Meter::<N>::start(Opening::of(nodes))) {
         Ok(store) => run_on_line(rt, &line, words, store, meter),
         Err(status) => status,
     }
@@ -134,10 +149,10 @@ fn run_over<N: Ledger + Drop, L: Ledger>(
 fn run_words(rt: &HostRuntime, words: &[PText]) -> Status
     ensures usage { result ≡ Status.Usage ↔ ((form : Form) → ¬ IsForm form words.now) }
 {
-    if form_of(words).is_none() {
-        return Status::Usage;
+    match form_of(words) {
+        Some(asked) => run_over::<Brand, Brand>(rt, Blank::new(2), Blank::new(2), words, asked),
+        None => Status::Usage,
     }
-    run_over::<Brand, Brand>(rt, Blank::new(2), Blank::new(2), words)
 }
 
 fn run(rt: &HostRuntime) -> Status {

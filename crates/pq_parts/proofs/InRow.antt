@@ -1,10 +1,10 @@
 -- Tests in a row that one part answers alone: what its node finds is so of all parts together.
-use Rattle.std.proofs.Common.{◌≡◌, ℕ, zero, suc, ◌+◌, ◌-◌, ◌≤◌, ◌<◌, Bool, true, false, cond, not, List, [], ◌∷◌, ◌++◌, length, take, drop, get_or, filter, sum_by, position, IsTrue, IfSome, Option, Some, None, Result, Ok, Err, IfOk, refl, sym, subst, ap, ◌∙◌, arith}
+use Rattle.std.proofs.Common.{◌≡◌, ℕ, zero, suc, ◌+◌, ◌-◌, ◌≤◌, ◌<◌, Bool, true, false, cond, not, List, [], ◌∷◌, ◌++◌, length, take, drop, get_or, sum_by, position, IsTrue, IfSome, Option, Some, None, Result, Ok, Err, IfOk, refl, sym, subst, ap, ◌∙◌, arith}
 use Rattle.std.specs.Prelude.{option_map, nat_lt, is_some, is_none, min, ◌==◌}
 use Rattle.std.specs.List.{AllByRecursion, position_or_len}
 use Rattle.std.specs.FinMap.{get}
 use Rattle.std.specs.Ordering.{is_le}
-use Rattle.std.proofs.lemmas.List.{take_all, length-take-le, length-drop, drop-take, take-append-drop}
+use Rattle.std.proofs.lemmas.List.{take_all, length-take-le, length-drop, take-append-drop}
 use Rattle.std.proofs.lemmas.List.Sums.{sum_by-append, sum_by-cons, sum_by-take-le}
 use Rattle.pq_store.specs.declared.store.Ends.{Ends}
 use Rattle.pq_store.specs.declared.store.StoreErr.{StoreErr}
@@ -17,7 +17,7 @@ use Rattle.pq_store.proofs.Places.{Pairs}
 use Rattle.pq_store.proofs.Rounds.{AreNoneCounted, pays_within}
 use Rattle.pq_store.proofs.Views.{seen, seen_get, seen_within}
 use Rattle.pq_parts.specs.declared.part.Part.{Part}
-use Rattle.pq_parts.specs.Spans.{Span, spans, span_of, own_content, concatenation, joined_content, first_from, part_has_key, IsPlacement}
+use Rattle.pq_parts.specs.Spans.{Span, spans, own_content, concatenation, joined_content, first_from, part_has_key, IsPlacement}
 use Rattle.pq_parts.specs.Asking.{is_end_within, answers_test, AreAnswered}
 use Rattle.pq_parts.proofs.Clips.{first_of_two, second_of_two}
 use Rattle.pq_parts.proofs.Joined.{linked, both, owns, all_rise, has_span, found_at}

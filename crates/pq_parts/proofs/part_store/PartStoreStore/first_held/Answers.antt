@@ -1,4 +1,4 @@
-use Rattle.std.proofs.Common.{◌≡◌, ◌≤◌, ◌+◌, ◌-◌, length, take, drop, sum_by, ap, arith, rules, ◌∙◌}
+use Rattle.std.proofs.Common.{◌≤◌, ◌+◌, length, take, sum_by, ap, arith, rules, ◌∙◌}
 use Rattle.pq_store.specs.Rounds.{test_entries}
 use Rattle.pq_store.proofs.Rounds.{affords_rest, pays_then, held_here}
 use Rattle.pq_parts.specs.Spans.{spans, joined_content}
