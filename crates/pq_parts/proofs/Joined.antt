@@ -116,7 +116,7 @@ has_span content (part ∷ parts) zero key has = has
 has_span content (part ∷ parts) (suc at) key has = has_span content parts at key has
 
 -- parts behind one begin at its end, which is at most a key of theirs
-begins_until : (list : List Span) → LinkedSpans list → (at : ℕ) (key : List ℕ) → IsTrue (has_at list at key) → (until : Option (List ℕ)) → until ≡ begin_of list → (end : List ℕ) × (until ≡ Some end) × (is_le (key_cmp end key) ≡ true)
+pub begins_until : (list : List Span) → LinkedSpans list → (at : ℕ) (key : List ℕ) → IsTrue (has_at list at key) → (until : Option (List ℕ)) → until ≡ begin_of list → (end : List ℕ) × (until ≡ Some end) × (is_le (key_cmp end key) ≡ true)
 begins_until [] none at key has until is = absurd (cc)
 begins_until (span ∷ list) (link _ _ ends ahead linked) zero key has until is = (span.from, is, first_of_two _ _ has)
 begins_until (span ∷ list) (link _ _ ends ahead linked) (suc at) key has until is =

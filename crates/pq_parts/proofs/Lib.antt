@@ -10,3 +10,4 @@ pub mod Gather
 pub mod Fetched
 pub mod Ranged
 pub mod InRow
+pub mod Spread

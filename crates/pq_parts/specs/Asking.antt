@@ -1,5 +1,5 @@
 -- What nodes are asked together: each its own questions, whose answers go back to their places.
-use Rattle.std.specs.Prelude.{◌≡◌, ℕ, zero, suc, ◌+◌, ◌&&◌, Bool, true, false, List, [], ◌∷◌, map, take, drop, Option, Some, None, IfSome, if◌then◌else◌}
+use Rattle.std.specs.Prelude.{◌≡◌, ℕ, zero, suc, ◌+◌, ◌&&◌, Bool, true, false, List, [], ◌∷◌, length, map, take, drop, Option, Some, None, IfSome, if◌then◌else◌}
 use Rattle.std.specs.Ordering.{is_le}
 use Rattle.std.specs.List.{AllByRecursion, sum_by}
 use Rattle.std.specs.FinMap.{get}
@@ -79,6 +79,14 @@ own_ask from until (Some ends) = if covers from until ends then Some ends else N
 abbrev pub is_spread : List Span → Ends → Bool
 is_spread [] ends = true
 is_spread (span ∷ list) ends = if covers span.from span.until ends then false else is_spread list ends
+
+-- how often nodes are asked for the range, where it lies in no part alone
+abbrev pub range_calls : List Span → Ends → ℕ
+range_calls spans ends = if is_spread spans ends then length spans else 0
+
+abbrev pub spread_calls : List Span → Option Ends → ℕ
+spread_calls spans None = 0
+spread_calls spans (Some ends) = range_calls spans ends
 
 -- the first pairs of the range in the content, where that is told
 pub record ArePairsTold (told : Option Content) (limit : ℕ) (ends : Ends) (found : List Pair) : Type 0 where

@@ -57,6 +57,7 @@ impl<S> Part<S> {
         ensures from { self.new.from ≡ self.old.from }
         ensures same { S.content self.new.store ≡ S.content self.old.store }
         ensures cause { HasCause (S.faults self.old.store) (S.faults self.new.store) result }
+        ensures round { S.rounds self.new.store ≤ S.rounds self.old.store + 1 }
         ensures tally { HasAsked tally.old tally.new
             (number_met low.now high.now (span_of S.content self.old until.now ∷ [])) limit
             (ranged_entries result) result }

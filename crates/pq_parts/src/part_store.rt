@@ -1,15 +1,15 @@
 //! The store over parts.
 ghost use Rattle.std.specs.Prelude.{◌≡◌, ◌≤◌, ◌<◌, ◌+◌, ◌*◌, ◌^◌, ◌++◌, ◌⊎◌, ◌↔◌, IfSome, IfOk, IfErr, IsOk, OnOk, IsErrOf, OnErr, IsTrue, map, take, drop, length, min, sum_by, None, true, false, ⊤};
-ghost use Rattle.std.specs.List.{AllZip};
+ghost use Rattle.std.specs.List.{AllByRecursion, AllZip};
 ghost use Rattle.std.specs.Option.{option_map, option_copied};
 ghost use Rattle.std.specs.FinMap.{get as value_at};
 ghost use Rattle.pq_store.specs.Counts.{charged_counts, raised_counts};
 ghost use Rattle.pq_store.specs.Rounds.{Affords, Pays, IsValueOf, IsValueAnswered, ArePairsOf, IsPartAsked, one_if_some};
-ghost use Rattle.pq_store.specs.Content.{entry, pairs_within, after_write, admits, got_entries, ranged_entries, counted_entries, IsPartOf, HasCause};
+ghost use Rattle.pq_store.specs.Content.{AreAnswers, entry, pairs_within, after_write, admits, got_entries, ranged_entries, counted_entries, IsPartOf, HasCause};
 ghost use Rattle.pq_parts.specs.Tally.{counted_call, HasAsked};
 ghost use Rattle.pq_parts.specs.Spans.{IsPlacement, part_has_key, first_from, firsts, spans, joined_content, number_met, faults_of};
 ghost use Rattle.pq_parts.specs.Gathered.{IsGathered, IsPieceAt, IsCountAt};
-ghost use Rattle.pq_parts.specs.Asking.{IsGetsAt, IsRangesAt, AreFoundBut, ArePairsTold, is_spread, is_end_within, rounds_of};
+ghost use Rattle.pq_parts.specs.Asking.{IsGetsAt, IsRangesAt, AreFoundBut, ArePairsTold, is_spread, is_end_within, range_calls, spread_calls, rounds_of};
 
 use crate::asking::{entries_of, number_of};
 use crate::part::Part;
@@ -77,6 +77,7 @@ impl<S, N: Ledger> PartStore<S, N> {
     pub(crate) fn place(&self, key: &[u8]) -> usize
         ensures within { result < length self.now.parts }
         ensures has { IsTrue (part_has_key self.now.parts result key.now) }
+        ensures placed { IsPlacement self.now.parts }
     {
         self.parts
             .as_slice()
@@ -100,6 +101,8 @@ impl<S: Store<N>, N: Ledger> PartStore<S, N> {
         ensures same { spans S.content self.new.parts ≡ spans S.content self.old.parts }
         ensures cause { HasCause (faults_of S.faults self.old.parts) (faults_of S.faults self.new.parts) result }
         ensures places { firsts self.new.parts ≡ firsts self.old.parts }
+        ensures rounds { rounds_of S.rounds self.new.parts
+            ≤ rounds_of S.rounds self.old.parts + length self.old.parts }
         ensures nodes { HasAsked self.old.tally self.new.tally
             (number_met low.now high.now (spans S.content self.old.parts)) limit (ranged_entries result) result }
     {
@@ -135,6 +138,7 @@ impl<S: Store<N>, N: Ledger> PartStore<S, N> {
         ensures same { spans S.content self.new.parts ≡ spans S.content self.old.parts }
         ensures cause { HasCause (faults_of S.faults self.old.parts) (faults_of S.faults self.new.parts) result }
         ensures places { firsts self.new.parts ≡ firsts self.old.parts }
+        ensures round { rounds_of S.rounds self.new.parts ≤ rounds_of S.rounds self.old.parts + 1 }
     {
         let left = limit - found.items().len() as u32;
         match self.range_at(alloc, at, low, high, left) {
@@ -161,6 +165,7 @@ impl<S: Store<N>, N: Ledger> PartStore<S, N> {
         ensures same { spans S.content self.new.parts ≡ spans S.content self.old.parts }
         ensures cause { HasCause (faults_of S.faults self.old.parts) (faults_of S.faults self.new.parts) result }
         ensures places { firsts self.new.parts ≡ firsts self.old.parts }
+        ensures round { rounds_of S.rounds self.new.parts ≤ rounds_of S.rounds self.old.parts + 1 }
     {
         match self.end_of(alloc, at) {
             Ok(until) => self.ask_range(alloc, at, low, high, &until, limit),
@@ -185,6 +190,7 @@ impl<S: Store<N>, N: Ledger> PartStore<S, N> {
         ensures same { spans S.content self.new.parts ≡ spans S.content self.old.parts }
         ensures cause { HasCause (faults_of S.faults self.old.parts) (faults_of S.faults self.new.parts) result }
         ensures places { firsts self.new.parts ≡ firsts self.old.parts }
+        ensures round { rounds_of S.rounds self.new.parts ≤ rounds_of S.rounds self.old.parts + 1 }
     {
         self.parts[at].range(alloc, low, high, until, limit, &mut self.tally)
     }
@@ -344,6 +350,8 @@ impl<S: Store<N>, N: Ledger> PartStore<S, N> {
         ensures parts { IfOk result (AllZip (IsPartAsked limit) asks.now) }
         ensures same { spans S.content self.new.parts ≡ spans S.content self.old.parts }
         ensures cause { HasCause (faults_of S.faults self.old.parts) (faults_of S.faults self.new.parts) result }
+        ensures rounds { rounds_of S.rounds self.new.parts ≤ rounds_of S.rounds self.old.parts
+            + length self.old.parts + sum_by (spread_calls (spans S.content self.old.parts)) asks.now }
     {
         let spread = self.spread_parts(alloc, asks, limit)?;
         let mut found = spread.into_vec();
@@ -365,6 +373,8 @@ impl<S: Store<N>, N: Ledger> PartStore<S, N> {
         ensures same { spans S.content self.new.parts ≡ spans S.content self.old.parts }
         ensures places { firsts self.new.parts ≡ firsts self.old.parts }
         ensures cause { HasCause (faults_of S.faults self.old.parts) (faults_of S.faults self.new.parts) result }
+        ensures rounds { rounds_of S.rounds self.new.parts ≤ rounds_of S.rounds self.old.parts
+            + sum_by (spread_calls (spans S.content self.old.parts)) asks.now }
     {
         let mut found = List::new(alloc);
         for asked in asks {
@@ -386,6 +396,8 @@ impl<S: Store<N>, N: Ledger> PartStore<S, N> {
         ensures same { spans S.content self.new.parts ≡ spans S.content self.old.parts }
         ensures places { firsts self.new.parts ≡ firsts self.old.parts }
         ensures cause { HasCause (faults_of S.faults self.old.parts) (faults_of S.faults self.new.parts) result }
+        ensures rounds { rounds_of S.rounds self.new.parts
+            ≤ rounds_of S.rounds self.old.parts + spread_calls (spans S.content self.old.parts) asked.now }
     {
         match asked {
             Some(ends) => self.spread_range(alloc, ends, limit),
@@ -405,6 +417,8 @@ impl<S: Store<N>, N: Ledger> PartStore<S, N> {
         ensures same { spans S.content self.new.parts ≡ spans S.content self.old.parts }
         ensures places { firsts self.new.parts ≡ firsts self.old.parts }
         ensures cause { HasCause (faults_of S.faults self.old.parts) (faults_of S.faults self.new.parts) result }
+        ensures rounds { rounds_of S.rounds self.new.parts
+            ≤ rounds_of S.rounds self.old.parts + range_calls (spans S.content self.old.parts) ends.now }
     {
         if self.lies_in_one(ends) {
             return Ok(List::new(alloc));
@@ -414,7 +428,8 @@ impl<S: Store<N>, N: Ledger> PartStore<S, N> {
 
     // Whether a part has all keys of the range.
     fn lies_in_one(&self, ends: &Ends) -> bool
-        ensures { (content : _) → IsTrue result → is_spread (spans content self.now.parts) ends.now ≡ false }
+        ensures lies { (content : _) → IsTrue result → is_spread (spans content self.now.parts) ends.now ≡ false }
+        ensures spread { (content : _) → result ≡ false → is_spread (spans content self.now.parts) ends.now ≡ true }
     {
         let at = self.place(ends.low.items());
         self.ends_before(at, ends.high.items())
@@ -672,9 +687,9 @@ impl<S: Store<N>, N: Ledger, L: Ledger> Store<L> for PartStore<S, N> {
     }
 
     /// One call of `ranges` for each node that has all keys of some of them: a round over n nodes is at
-    /// most n rounds of theirs, and one call more for each part that a range meets which lies in no
-    /// part alone. After a fault each range counts as an operation. Of ranges that may have more pairs
-    /// than a number of 32 bits tells, which no bound allows, each is asked alone.
+    /// most n rounds of theirs, and n more for each range that lies in no part alone. After a fault each
+    /// range counts as an operation. Of ranges that may have more pairs than a number of 32 bits tells,
+    /// which no bound allows, each is asked alone.
     fn ranges(
         &mut self,
         alloc: Global,
@@ -682,7 +697,25 @@ impl<S: Store<N>, N: Ledger, L: Ledger> Store<L> for PartStore<S, N> {
         limit: u32,
         allowance: &mut Allowance,
         meter: &mut Meter<L>,
-    ) -> Result<List<List<Pair>>, StoreErr> {
+    ) -> Result<List<List<Pair>>, StoreErr>
+        requires limit { 1 ≤ limit }
+        requires share { Affords allowance.old (length asks.now) (length asks.now * limit) }
+        ensures long { IfOk result (λ found. length found ≡ length asks.now) }
+        ensures answer { IfOk result (AllZip (ArePairsOf (joined_content (spans S.content self.old.parts)) limit)
+            asks.now) }
+        ensures parts { IfOk result (AllZip (IsPartAsked limit) asks.now) }
+        ensures answered { IfOk result (AllByRecursion (AreAnswers (λ _ _. ⊤))) }
+        ensures same { joined_content (spans S.content self.new.parts)
+            ≡ joined_content (spans S.content self.old.parts) }
+        ensures cause { HasCause (faults_of S.faults self.old.parts) (faults_of S.faults self.new.parts) result }
+        ensures paid { Pays allowance.old allowance.new meter.old meter.new (length asks.now)
+            (length asks.now * limit) }
+        ensures counted { IfOk result (λ found. meter.new ≡ raised_counts meter.old (sum_by one_if_some asks.now)
+            (sum_by length found)) }
+        ensures rounds { length asks.now * limit < 2 ^ 32 → rounds_of S.rounds self.new.parts
+            ≤ rounds_of S.rounds self.old.parts + length self.old.parts
+            + sum_by (spread_calls (spans S.content self.old.parts)) asks.now }
+    {
         if asks.len() as u128 * limit as u128 > u32::MAX as u128 {
             return self.ranges_singly(alloc, asks, limit, allowance, meter);
         }

@@ -109,6 +109,7 @@ impl<N: Ledger> Tally<N> {
         ensures part { IfOk result (λ found. IsPartOf low.now high.now limit (map entry found)) }
         ensures same { S.content node.new ≡ S.content node.old }
         ensures cause { HasCause (S.faults node.old) (S.faults node.new) result }
+        ensures round { S.rounds node.new ≤ S.rounds node.old + 1 }
         ensures counts { self.new ≡ counted_call self.old 1 (ranged_entries result) }
     {
         let found = node.range(alloc, low, high, limit, &mut self.meter);

@@ -1,4 +1,4 @@
-use Rattle.pq_parts.proofs.Nodes.{placed_moved, firsts_moved, same_moved, cause_moved}
+use Rattle.pq_parts.proofs.Nodes.{placed_moved, firsts_moved, same_moved, cause_moved, rounds_moved}
 use Rattle.pq_parts.proofs.Gather.{piece_here}
 use Rattle.pq_parts.proofs.part_store.PartStore.ask_range.Goals as goal
 
@@ -21,3 +21,7 @@ returns-clause-cause g c =
 pub returns-clause-places : goal.returns-clause-places
 returns-clause-places g c =
     rw (← c.self.view_is) (firsts_moved c.index_mut.result.now c.range.new.self c.range.ensures.from c.self.inside.parts.items c.args.at c.index_mut.ensures.value)
+
+pub returns-clause-round : goal.returns-clause-round
+returns-clause-round g c =
+    rw (← c.self.view_is) (rounds_moved c.index_mut.result.now c.range.new.self c.range.ensures.from c.self.inside.parts.items c.args.at c.index_mut.ensures.value g.S.Store.rounds (rw (← c.self.view_is) at c.requires.within) c.range.ensures.round)

@@ -12,11 +12,14 @@ loop-at-preserved g c =
     let done = c.in_ok-take_part.ensures in
     let before = inv.faults in
     let later = done.cause.later in
+    let asked = inv.rounds in
+    let once = done.round in
     record {
       long = sym (length-spans g.S.Store.content c.take_part.new.self.parts) ∙ ap length done.same ∙ length-spans g.S.Store.content c.loop-at.self.parts ∙ inv.long;
       same = done.same ∙ inv.same;
       places = done.places ∙ inv.places;
       faults = omega (arith, before, later);
+      rounds = omega (arith, asked, once);
       gathered = rw (← inv.same) (done.gathers c.args.self.now.tally (rw inv.same inv.gathered));
     }
 

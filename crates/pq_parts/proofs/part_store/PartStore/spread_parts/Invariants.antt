@@ -1,7 +1,7 @@
-use Rattle.std.proofs.Common.{◌≡◌, ◌≤◌, take}
+use Rattle.std.proofs.Common.{◌≡◌, ◌≤◌, ◌+◌, take, sum_by}
 use Rattle.std.specs.List.{AllZip}
 use Rattle.pq_parts.specs.Spans.{spans, firsts, faults_of, joined_content}
-use Rattle.pq_parts.specs.Asking.{AreFoundBut}
+use Rattle.pq_parts.specs.Asking.{AreFoundBut, spread_calls, rounds_of}
 use Rattle.pq_parts.proofs.part_store.PartStore.spread_parts.Given as goal
 
 abbrev pub invariant-loop-asked : goal.invariant-loop-asked
@@ -9,5 +9,6 @@ invariant-loop-asked g l = record {
   same : spans g.S.Store.content l.self.parts ≡ spans g.S.Store.content l.fn.self.parts;
   places : firsts l.self.parts ≡ firsts l.fn.self.parts;
   faults : faults_of g.S.Store.faults l.fn.self.parts ≤ faults_of g.S.Store.faults l.self.parts;
+  rounds : rounds_of g.S.Store.rounds l.self.parts ≤ rounds_of g.S.Store.rounds l.fn.self.parts + sum_by (spread_calls (spans g.S.Store.content l.fn.self.parts)) (take l.asked-index l.asks);
   found : AllZip (AreFoundBut (joined_content (spans g.S.Store.content l.fn.self.parts)) (spans g.S.Store.content l.fn.self.parts) l.limit) (take l.asked-index l.asks) l.found;
 }
