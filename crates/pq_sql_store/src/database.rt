@@ -1,10 +1,12 @@
 //! The database with the transaction that is open in it between two calls.
 //!
 //! A statement that changes several pairs puts the intent, makes each change and removes the intent again, and an
-//! index is filled by a write of each entry. Each of these rows of writes is one transaction here, with one sync.
+//! index is filled by a write of each entry. Each of these rows of writes is one transaction here, with one sync. The
+//! writes of a statement have no condition, so they are kept and made together as the intent is removed.
 ghost use Rattle.std.specs.Prelude.{◌≡◌, ◌⊎◌, IfOk, IsErr, OnErr, OnOk, Some, true};
 ghost use Rattle.pq_sql_store.specs.Lots.{ended, filling, undone};
 
+use crate::kept::{Write, copied, make_all};
 use crate::sql_store::store_err;
 use crate::statements::{begin, change, commit, number_within, pairs_within, rollback, value_at};
 use pq_base::{Bytes, List};
@@ -32,6 +34,8 @@ pub enum Within {
 pub struct Database<D: Alter> {
     connection: Connection<D>,
     within: Within,
+    // The writes of the statement that were answered as made. They are made before anything else is asked.
+    kept: Option<Vec<Write>>,
 }
 
 // Written out, so that no caller proves again how each part of a connection is dropped. The database undoes the
@@ -41,6 +45,7 @@ impl<D: Alter + Drop> Drop for Database<D> {
         let Database {
             connection: _,
             within: _,
+            kept: _,
         } = self;
     }
 }
@@ -59,12 +64,6 @@ fn place_of(key: &[u8]) -> Place {
         [0x03, ..] => Place::Entry,
         _ => Place::Other,
     }
-}
-
-fn copied(alloc: Global, bytes: &[u8]) -> Result<Bytes, Error>
-    ensures { IfOk result (λ copy. copy ≡ bytes.now) }
-{
-    Ok(List::from_vec(Vec::from_slice(alloc, bytes)?))
 }
 
 // Whether the intent's key lies in the range.
@@ -119,6 +118,7 @@ impl<D: Alter> Database<D> {
         Database {
             connection,
             within: Within::Nothing,
+            kept: None,
         }
     }
 
@@ -184,12 +184,31 @@ impl<D: Alter> Database<D> {
         }
     }
 
+    // Makes the writes that are kept.
+    fn make_kept(&mut self, alloc: Global) -> Result<(), Error>
+        ensures { self.new.within ≡ self.old.within }
+    {
+        match self.kept.take() {
+            Some(kept) => make_all(alloc, &mut self.connection, kept.as_slice()),
+            None => Ok(()),
+        }
+    }
+
+    // Has all that was answered in the database: commits the entries that wait, and makes the writes that are kept.
+    fn settle(&mut self, alloc: Global) -> Result<(), Error>
+        ensures ended { OnOk result (self.new.within ≡ ended self.old.within) }
+        ensures undone { self.old.within ≡ Within.Undone → IsErr result }
+    {
+        self.end_lot()?;
+        self.make_kept(alloc)
+    }
+
     /// The value of the key.
     pub fn get(&mut self, alloc: Global, key: &[u8]) -> Result<Option<Bytes>, Error>
         ensures ended { OnOk result (self.new.within ≡ ended self.old.within) }
         ensures undone { self.old.within ≡ Within.Undone → IsErr result }
     {
-        self.end_lot()?;
+        self.settle(alloc)?;
         match (&self.within, place_of(key)) {
             (Within::Intent(held), Place::Intent) => Ok(Some(copied(alloc, held.items())?)),
             _ => value_at(&mut self.connection, key),
@@ -207,7 +226,7 @@ impl<D: Alter> Database<D> {
         ensures ended { OnOk result (self.new.within ≡ ended self.old.within) }
         ensures undone { self.old.within ≡ Within.Undone → IsErr result }
     {
-        self.end_lot()?;
+        self.settle(alloc)?;
         match &self.within {
             Within::Intent(held) if has_intent(low, high) => around_intent(
                 alloc,
@@ -222,11 +241,11 @@ impl<D: Alter> Database<D> {
     }
 
     /// The number of pairs with `low <= key < high`, up to `cap`.
-    pub fn count(&mut self, low: &[u8], high: &[u8], cap: u32) -> Result<u32, Error>
+    pub fn count(&mut self, alloc: Global, low: &[u8], high: &[u8], cap: u32) -> Result<u32, Error>
         ensures ended { OnOk result (self.new.within ≡ ended self.old.within) }
         ensures undone { self.old.within ≡ Within.Undone → IsErr result }
     {
-        self.end_lot()?;
+        self.settle(alloc)?;
         let written = number_within(&mut self.connection, low, high, cap)?;
         match self.within {
             Within::Intent(_) if has_intent(low, high) && written < cap => Ok(written + 1),
@@ -261,13 +280,14 @@ impl<D: Alter> Database<D> {
     {
         match place {
             Place::Intent => self.write_intent(alloc, key, guard, new),
-            Place::Entry => self.write_entry(key, guard, new),
-            Place::Other => self.write_other(key, guard, new),
+            Place::Entry => self.write_entry(alloc, key, guard, new),
+            Place::Other => self.write_other(alloc, key, guard, new),
         }
     }
 
     fn write_entry(
         &mut self,
+        alloc: Global,
         key: &[u8],
         guard: Guard,
         new: Option<&[u8]>,
@@ -276,11 +296,12 @@ impl<D: Alter> Database<D> {
         ensures undone { self.old.within ≡ Within.Undone → IsErr result }
     {
         self.begin_lot()?;
-        self.change(key, guard, new)
+        self.change(alloc, key, guard, new)
     }
 
     fn write_other(
         &mut self,
+        alloc: Global,
         key: &[u8],
         guard: Guard,
         new: Option<&[u8]>,
@@ -289,17 +310,48 @@ impl<D: Alter> Database<D> {
         ensures undone { self.old.within ≡ Within.Undone → IsErr result }
     {
         self.end_lot()?;
-        self.change(key, guard, new)
+        self.change(alloc, key, guard, new)
     }
 
     fn change(
         &mut self,
+        alloc: Global,
         key: &[u8],
         guard: Guard,
         new: Option<&[u8]>,
     ) -> Result<Option<bool>, Error>
         ensures { self.new.within ≡ self.old.within }
     {
+        match (&self.within, guard) {
+            (Within::Intent(_), Guard::Any) => self.keep(alloc, key, new),
+            _ => self.change_now(alloc, key, guard, new),
+        }
+    }
+
+    // Keeps a write of the statement. Without a condition it is made as surely as the statement is.
+    fn keep(&mut self, alloc: Global, key: &[u8], new: Option<&[u8]>) -> Result<Option<bool>, Error>
+        ensures { self.new.within ≡ self.old.within }
+    {
+        let write = Write::of(alloc, key, new)?;
+        let mut kept = match self.kept.take() {
+            Some(kept) => kept,
+            None => Vec::new(alloc),
+        };
+        kept.push(write)?;
+        self.kept = Some(kept);
+        Ok(Some(true))
+    }
+
+    fn change_now(
+        &mut self,
+        alloc: Global,
+        key: &[u8],
+        guard: Guard,
+        new: Option<&[u8]>,
+    ) -> Result<Option<bool>, Error>
+        ensures { self.new.within ≡ self.old.within }
+    {
+        self.make_kept(alloc)?;
         let changed = change(&mut self.connection, key, guard, new)?;
         Ok(is_done(guard, new, changed))
     }
@@ -314,12 +366,12 @@ impl<D: Alter> Database<D> {
     ) -> Result<Option<bool>, Error>
         ensures undone { self.old.within ≡ Within.Undone → IsErr result }
     {
-        self.end_lot()?;
+        self.settle(alloc)?;
         match (&self.within, guard, new) {
             (Within::Intent(held), _, _) if !holds_of(guard, held.items()) => Ok(Some(false)),
             (Within::Intent(_), _, _) => self.write_held(alloc, new),
             (_, Guard::Absent, Some(value)) => self.begin_statement(alloc, key, value),
-            _ => self.change(key, guard, new),
+            _ => self.change(alloc, key, guard, new),
         }
     }
 
@@ -362,6 +414,7 @@ impl<D: Alter + Drop> Database<D> {
         let Database {
             connection,
             within: _,
+            kept: _,
         } = self;
         ended?;
         Ok(connection)

@@ -6,6 +6,7 @@
 
 mod database;
 mod file;
+mod kept;
 mod sql_store;
 mod statements;
 

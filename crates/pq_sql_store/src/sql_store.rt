@@ -171,13 +171,13 @@ impl<L: Ledger, D: Alter> Store<L> for SqlStore<D> {
 
     fn count(
         &mut self,
-        _alloc: Global,
+        alloc: Global,
         low: &[u8],
         high: &[u8],
         cap: u32,
         meter: &mut Meter<L>,
     ) -> Result<u32, StoreErr> {
-        match self.database.count(low, high, cap) {
+        match self.database.count(alloc, low, high, cap) {
             Ok(n) => {
                 if n <= cap {
                     meter.charge(n);

@@ -4,7 +4,7 @@
 use pq_base::{Bytes, List};
 use pq_store::{Guard, Pair};
 use sqlite::types::ValueRef;
-use sqlite::{Alter, Connection, Error, Row, params};
+use sqlite::{Alter, Connection, Error, ErrorCode, Row, params};
 use std::alloc::Global;
 
 const TABLE: &str = "CREATE TABLE kv(k BLOB PRIMARY KEY, v BLOB NOT NULL)";
@@ -21,6 +21,16 @@ const PUT: &str =
     "INSERT INTO kv (k, v) VALUES (?1, ?2) ON CONFLICT (k) DO UPDATE SET v = excluded.v";
 
 const ADD: &str = "INSERT INTO kv (k, v) VALUES (?1, ?2) ON CONFLICT (k) DO NOTHING";
+
+/// How many pairs a lot has.
+pub const LOT: usize = 32;
+
+// A lot whose keys are all absent.
+const ADD_LOT: &str = "INSERT INTO kv (k, v) VALUES \
+    (?, ?), (?, ?), (?, ?), (?, ?), (?, ?), (?, ?), (?, ?), (?, ?), \
+    (?, ?), (?, ?), (?, ?), (?, ?), (?, ?), (?, ?), (?, ?), (?, ?), \
+    (?, ?), (?, ?), (?, ?), (?, ?), (?, ?), (?, ?), (?, ?), (?, ?), \
+    (?, ?), (?, ?), (?, ?), (?, ?), (?, ?), (?, ?), (?, ?), (?, ?)";
 
 const SWAP: &str = "UPDATE kv SET v = ?3 WHERE k = ?1 AND v = ?2";
 
@@ -164,5 +174,18 @@ pub fn change<D: Alter>(
         },
         (Guard::Is(old), Some(value)) => run(connection, SWAP, params![key, old, value]),
         (Guard::Is(old), None) => run(connection, DROP_SAME, params![key, old]),
+    }
+}
+
+/// Whether a lot was added, whose keys and values take turns. Where a key is there nothing is changed.
+pub fn add_lot<D: Alter>(
+    connection: &mut Connection<D>,
+    values: &[ValueRef<'_>],
+) -> Result<bool, Error> {
+    match run(connection, ADD_LOT, values) {
+        Ok(LOT) => Ok(true),
+        Ok(_) => Err(Error::SqliteFailure(ErrorCode::Closed)),
+        Err(Error::SqliteFailure(ErrorCode::ConstraintViolation(_))) => Ok(false),
+        Err(error) => Err(error),
     }
 }

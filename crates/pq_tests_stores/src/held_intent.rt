@@ -11,7 +11,7 @@ use std::marker::Brand;
 use std::sync::ledger::{Blank, Ledger};
 use std::test;
 
-const INTENT: &[u8] = &[4];
+pub(crate) const INTENT: &[u8] = &[4];
 
 // Writes in a row: of the pairs on both sides of the intent, and of the intent under each guard.
 const WRITES: [(&[u8], Guard<'static>, Option<&'static [u8]>); 16] = [
@@ -46,7 +46,7 @@ const RANGES: [(&[u8], &[u8], u32); 9] = [
     (&[9], &[0], 9),
 ];
 
-fn tell_pairs(alloc: Global, pairs: &[Pair], told: &mut Bytes) -> Result<(), Broke> {
+pub(crate) fn tell_pairs(alloc: Global, pairs: &[Pair], told: &mut Bytes) -> Result<(), Broke> {
     for pair in pairs {
         told.extend(alloc, pair.key.items())?;
         told.extend(alloc, b"=")?;

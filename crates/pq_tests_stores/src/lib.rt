@@ -21,6 +21,8 @@ mod frozen;
 #[cfg(test)]
 mod held_intent;
 #[cfg(test)]
+mod many_writes;
+#[cfg(test)]
 mod parts;
 #[cfg(test)]
 mod scarce;
