@@ -5,7 +5,7 @@ from itertools import repeat
 
 from .errors import ProgrammingError
 from .schema import Column, Table
-from .scripts import is_of_64_bits, plain_number
+from .scripts import SAFE_DIGITS, is_of_64_bits, plain_number
 from .values import quoted, quoted_text
 
 Reader = Callable[[str], str]
@@ -26,6 +26,15 @@ def number_of(cell: str) -> str:
     if not is_of_64_bits(cell):
         raise Unreadable("a number of more than 64 bits")
     return plain_number(cell)
+
+
+def are_plain(cells: Sequence[str]) -> bool:
+    """Whether each cell is a number above 0, just as an INSERT writes it, so that none has to be read by itself."""
+    digits = "".join(cells)
+    if not (digits.isascii() and digits.isdecimal()):
+        return False
+    # The least cell tells of all that none is empty or begins with a zero.
+    return min(cells) >= "1" and max(map(len, cells)) <= SAFE_DIGITS
 
 
 def truth_of(cell: str) -> str:
@@ -72,7 +81,7 @@ class RowReader:
     """Reads the cells behind a head as rows: each is the values between the parentheses of its INSERT."""
 
     def __init__(self, table: Table, head: Sequence[str], null: str) -> None:
-        self.columns = columns_of(table, head)
+        self.columns, self.null = columns_of(table, head), null
         self.readers = [reader_of(column, null) for column in self.columns]
         absent = [column for column in table.columns if column not in self.columns]
         self.defaults = [quoted(column.default) for column in absent]
@@ -89,9 +98,13 @@ class RowReader:
         values += [repeat(default, len(records)) for default in self.defaults]
         return list(map(", ".join, zip(*[values[place] for place in self.order])))
 
-    def read(self, place: int, cells: Sequence[str]) -> list[str]:
+    def read(self, place: int, cells: Sequence[str]) -> Sequence[str]:
         """The values of the cells of one column."""
+        column = self.columns[place]
+        has_null = column.nullable and self.null in cells
+        if column.type == "INT" and not has_null and are_plain(cells):
+            return cells
         try:
             return list(map(self.readers[place], cells))
         except Unreadable as error:
-            raise Unreadable(f"column {self.columns[place].name}: {error}") from error
+            raise Unreadable(f"column {column.name}: {error}") from error

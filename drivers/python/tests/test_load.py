@@ -64,6 +64,18 @@ class CellTest(unittest.TestCase):
             with self.subTest(cell[:30]), self.assertRaisesRegex(Unreadable, "^a number of more than 64 bits$"):
                 read(cell)
 
+    def test_columns_of_numbers(self) -> None:
+        table = Table("t", (Column("id", "INT", None, False), Column("n", "INT", None, True)), ("id",), "")
+        reader = RowReader(table, ["id", "n"], "7")
+        for cells in ({"1": 1, "9" * 18: 10**18 - 1}, NUMBERS, {"5": 5, "07": 7}, {"1" * 19: int("1" * 19), "8": 8}):
+            rows = reader.rows([[cell, cell] for cell in cells])
+            self.assertEqual(rows, [f"{number}, {number}" for number in cells.values()])
+        self.assertEqual(reader.rows([["7", "6"], ["8", "7"]]), ["7, 6", "8, NULL"])
+        for cell in NO_NUMBERS + LARGE_NUMBERS:
+            for records in ([["1", "1"], [cell, "1"]], [[cell, "1"], ["1", "1"]], [["1", "1"], ["2", cell]]):
+                with self.subTest(cell[:30]), self.assertRaisesRegex(Unreadable, "^column (id|n): "):
+                    reader.rows(records)
+
     def test_other_cells(self) -> None:
         truth, text = reader_of(Column("b", "BOOL", None, True), "-"), reader_of(Column("t", "TEXT", 9, False), "-")
         self.assertEqual([truth(cell) for cell in ("TRUE", "f", "1", "-")], ["TRUE", "FALSE", "TRUE", "NULL"])
