@@ -17,8 +17,10 @@ KEYWORDS = frozenset(
 
 NAME = re.compile(r"[A-Za-z_][A-Za-z0-9_]*+")
 # Each repetition is possessive: it gives nothing back, so a text that doesn't match takes no longer than one that does.
-PIECE = re.compile(rb"(?:[^';-]++|-(?!-)|'[^']*+'|--[^\n]*+\n)*+;")
-WHITE_PIECE = re.compile(rb"(?:[ \t\r\n]++|--[^\n]*+\n)*+;")
+# A text or a comment without an end goes on to the end of all here, where no `;` follows, so that it matches none of
+# these: before Python 3.11.5 a part of a group that failed behind its first letters was taken for one.
+PIECE = re.compile(rb"(?:[^';-]++|-(?!-)|'[^']*+(?:'|\Z)|--[^\n]*+(?:\n|\Z))*+;")
+WHITE_PIECE = re.compile(rb"(?:[ \t\r\n]++|--[^\n]*+(?:\n|\Z))*+;")
 ONE_PIECE = re.compile(rb"(?!" + WHITE_PIECE.pattern + rb")" + PIECE.pattern)
 WHITE_REST = re.compile(rb"(?:[ \t\r\n]++|--[^\n]*+(?:\n|\Z))*+")
 TOKEN = re.compile(

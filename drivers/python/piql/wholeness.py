@@ -5,24 +5,29 @@ What isn't so would leave the reports behind the statements, and each later one 
 
 import itertools
 import re
+import sys
 from collections.abc import Callable, Sequence
 
 from .errors import InternalError, ProgrammingError
 from .scripts import is_one_piece
 
+# Behind the repetition of a group. Before Python 3.11.5 a possessive one took for one of the group a part that failed
+# behind its first letters. There it may give back, which finds the same: what follows here begins otherwise.
+KEPT = b"+" if sys.version_info >= (3, 11, 5) else b""
 # The rest of a line up to its line feed: its quotes are closed. Each repetition here is possessive, so that a long text
 # is read once.
-REST = rb"[^'\n]*+(?:'[^']*+'[^'\n]*+)*+\n"
+REST = rb"[^'\n]*+(?:'[^']*+'[^'\n]*+)*" + KEPT + rb"\n"
 VALUE = rb"(?:'[^']*+(?:''[^']*+)*+'|-?[0-9]{1,19}+|true|false|NULL)"
-ROWS = rb"(?:row " + VALUE + rb"(?:, " + VALUE + rb")*+\n)++"
-OTHERS = rb"(?:(?:query|index|def) " + REST + rb")++"
+ROWS = rb"(?:row " + VALUE + rb"(?:, " + VALUE + rb")*" + KEPT + rb"\n)+" + KEPT
+OTHERS = rb"(?:(?:query|index|def) " + REST + rb")+" + KEPT
+NEXT = rb"(?: next [A-Za-z0-9_-]++)?" + KEPT
 END_LINE = (
-    rb"([1-9][0-9]{0,18}+) (?:ok(?: rows [0-9]++(?: next [A-Za-z0-9_-]++)?+)?+|refused E[0-9]{3}[^'\n]*?)"
+    rb"([1-9][0-9]{0,18}+) (?:ok(?: rows [0-9]++" + NEXT + rb")?" + KEPT + rb"|refused E[0-9]{3}[^'\n]*?)"
     rb" bound [0-9]++ [0-9]++ used [0-9]++ [0-9]++\n"
 )
-REPORT = re.compile(rb"(?:" + ROWS + rb"|" + OTHERS + rb")?+" + END_LINE)
+REPORT = re.compile(rb"(?:" + ROWS + rb"|" + OTHERS + rb")?" + KEPT + END_LINE)
 END = re.compile(END_LINE)
-LINES = re.compile(rb"(?:(?:row|query|index|def) " + REST + rb")*+")
+LINES = re.compile(rb"(?:(?:row|query|index|def) " + REST + rb")*" + KEPT)
 # A whole line that begins none of a report and isn't the one by which a run tells of a damage and ends.
 STRANGE = re.compile(rb"(?!damaged )" + REST)
 NOT_ONE = "what is sent has to be one whole statement, and nothing was sent"
