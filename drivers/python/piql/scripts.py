@@ -18,7 +18,7 @@ KEYWORDS = frozenset(
 NAME = re.compile(r"[A-Za-z_][A-Za-z0-9_]*+")
 # Each repetition is possessive: it gives nothing back, so a text that doesn't match takes no longer than one that does.
 # A text or a comment without an end goes on to the end of all here, where no `;` follows, so that it matches none of
-# these: before Python 3.11.5 a part of a group that failed behind its first letters was taken for one.
+# these: Python 3.11.2 takes for one of a group a part that failed behind its first letters.
 PIECE = re.compile(rb"(?:[^';-]++|-(?!-)|'[^']*+(?:'|\Z)|--[^\n]*+(?:\n|\Z))*+;")
 WHITE_PIECE = re.compile(rb"(?:[ \t\r\n]++|--[^\n]*+(?:\n|\Z))*+;")
 ONE_PIECE = re.compile(rb"(?!" + WHITE_PIECE.pattern + rb")" + PIECE.pattern)

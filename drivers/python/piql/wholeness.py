@@ -5,15 +5,15 @@ What isn't so would leave the reports behind the statements, and each later one 
 
 import itertools
 import re
-import sys
 from collections.abc import Callable, Sequence
 
 from .errors import InternalError, ProgrammingError
 from .scripts import is_one_piece
 
-# Behind the repetition of a group. Before Python 3.11.5 a possessive one took for one of the group a part that failed
-# behind its first letters. There it may give back, which finds the same: what follows here begins otherwise.
-KEPT = b"+" if sys.version_info >= (3, 11, 5) else b""
+# Behind the repetition of a group. With some Pythons, 3.11.2 among them, a possessive one takes for one of the group a
+# part that failed behind its first letters. There it may give back, which finds the same: what follows is no beginning
+# of the group.
+KEPT = b"" if re.fullmatch(rb"(?:'[^']*+')*+;", b"';") else b"+"
 # The rest of a line up to its line feed: its quotes are closed. Each repetition here is possessive, so that a long text
 # is read once.
 REST = rb"[^'\n]*+(?:'[^']*+'[^'\n]*+)*" + KEPT + rb"\n"
