@@ -1,5 +1,5 @@
 //! Reports, openings and damage as text.
-ghost use Rattle.std.specs.Prelude.{◌≡◌, ◌<◌, ◌++◌, OnOk, OnErr, flat_map, string_bytes};
+ghost use Rattle.std.specs.Prelude.{◌≡◌, ◌<◌, ◌≤◌, ◌++◌, OnOk, OnErr, flat_map, string_bytes};
 ghost use Rattle.std.specs.Char.{digit_char};
 ghost use Rattle.pq_print.specs.Report.{bound_text, used_text, choice_text, dir_text, index_col_text, line_text, line_of, next_text, end_text, end_line, printed_report, opening_line, hex, damage_line, is_refusal};
 
@@ -159,14 +159,22 @@ impl Report {
     }
 }
 
+/// The room for a report's text: 64 bytes for each line, which few are longer than, but for no more than 64 lines.
+fn text_room(lines: usize) -> usize
+    ensures { result ≤ 4160 }
+{
+    64 * (lines.min(64) + 1)
+}
+
 #[tactic(auto, unfolding(crate::specs::Report::printed_report))]
 /// Appends the report's lines and its end line. After `NoMem` the bytes are as before.
 pub fn print_report(alloc: Global, report: &Report, out: &mut Bytes) -> Result<(), NoMem>
     ensures ok { OnOk result (out.new ≡ out.old ++ printed_report report.now) }
     ensures err { OnErr result (out.new ≡ out.old) }
 {
-    let mut text = String::new(alloc);
-    put_each(report.lines.items(), &(), "", &mut text)?;
+    let lines = report.lines.items();
+    let mut text = String::with_capacity(alloc, text_room(lines.len()))?;
+    put_each(lines, &(), "", &mut text)?;
     put_end_line(report, &mut text)?;
     out.extend_text(alloc, text)
 }
