@@ -1,5 +1,5 @@
 //! Values and rows as text.
-ghost use Rattle.std.specs.Prelude.{◌≡◌, ◌++◌, OnOk, OnErr, flat_map, string_bytes, encode_utf8};
+ghost use Rattle.std.specs.Prelude.{◌≡◌, ◌++◌, IfSome, OnOk, OnErr, flat_map, string_bytes, encode_utf8};
 ghost use Rattle.pq_print.specs.Values.{doubled_quotes, quoted_text, value_text, row_text};
 ghost use Rattle.pq_print.specs.Report.{line_of};
 
@@ -19,14 +19,41 @@ fn put_char(c: char, out: &mut String) -> Result<(), AllocError>
     out.push(c)
 }
 
+fn put_chars(text: &str, out: &mut String) -> Result<(), AllocError>
+    ensures { OnOk result (string_bytes out.new ≡ string_bytes out.old ++ flat_map doubled_quotes text.now) }
+{
+    for c in text.chars() {
+        put_char(c, out)?;
+    }
+    Ok(())
+}
+
+/// The text, if there is no quote in it.
+fn plain(text: &str) -> Option<&str>
+    ensures { IfSome result (λ plain. plain.now ≡ flat_map doubled_quotes text.now) }
+{
+    if text.as_bytes().contains(&b'\'') {
+        return None;
+    }
+    Some(text)
+}
+
+/// Puts the text with each quote in it written twice.
+fn put_doubled(text: &str, out: &mut String) -> Result<(), AllocError>
+    ensures { OnOk result (string_bytes out.new ≡ string_bytes out.old ++ flat_map doubled_quotes text.now) }
+{
+    match plain(text) {
+        Some(plain) => out.push_str(plain),
+        None => put_chars(text, out),
+    }
+}
+
 /// Puts the text between quotes, with each quote in it written twice.
 fn put_quoted(text: &str, out: &mut String) -> Result<(), AllocError>
     ensures { OnOk result (string_bytes out.new ≡ string_bytes out.old ++ quoted_text text.now) }
 {
     out.push_str("'")?;
-    for c in text.chars() {
-        put_char(c, out)?;
-    }
+    put_doubled(text, out)?;
     out.push_str("'")
 }
 
