@@ -4,7 +4,7 @@ use Rattle.std.specs.Prelude.{All, IfSome, nat_le, unwrap_or}
 use Rattle.std.specs.List.{AllByRecursion}
 use Rattle.std.proofs.lemmas.Bool.{leb-false, eqb-true, cases_eq, false≢true}
 use Rattle.std.proofs.lemmas.Option.{none-some, same_Some}
-use Rattle.std.proofs.lemmas.List.{length-set, get_or-set_same, get_or-set_other}
+use Rattle.std.proofs.lemmas.List.{length-set, get_or_push, get_or-set_same, get_or-set_other}
 use Rattle.std.proofs.lemmas.List.Elements.{All-nil, All-push, All-get_or, All-weaker, All-from_recursion}
 use Rattle.std.proofs.lemmas.List.Quantifiers.{position-Some}
 use Rattle.pq_base.specs.Answers.{or_else}
@@ -192,6 +192,15 @@ counter_made s number v is =
     let there = is.there in
     counter_in s.tables (definition_at s number) is.counter
     (All-get_or (HasCounter s.tables) s.definitions (number - 1) no_definition (omega (arith, one, there)) (valid_counters v))
+
+-- where a counter is defined there is a table
+pub counter_over_table : (s : Schema) (counter : Counter) → IsValid (with_counter s counter) → 1 ≤ length s.tables
+counter_over_table s counter v =
+    let last = All-get_or (HasCounter s.tables) (s.definitions ++ OfCounter counter ∷ []) (length s.definitions) no_definition (omega (arith, length-append s.definitions (OfCounter counter ∷ []))) (valid_counters v) in
+    let made : IsMadeCounter s.tables counter = subst (HasCounter s.tables) (get_or_push s.definitions (OfCounter counter) no_definition (length s.definitions) refl) last in
+    let one = made.from_one in
+    let there = made.there in
+    omega (arith, one, there)
 
 -- ---- the counters of a table
 

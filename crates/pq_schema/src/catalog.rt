@@ -19,6 +19,28 @@ use std::marker::Model;
 
 /// The tables, queries, added columns and counters that are defined: at most 64 tables and 256 definitions.
 pub struct Catalog {
+    /// Behind a pointer, since a catalog is moved by value from step to step; None where nothing is defined.
+    held: Option<Box<Held>>,
+}
+
+// Written out, so that whoever drops a catalog makes one call for it.
+impl Drop for Catalog {
+    fn drop(self) {
+        let Catalog { held: _held } = self;
+    }
+}
+
+impl Model for Catalog {
+    ghost use Rattle.std.specs.Prelude.{option_map, unwrap_or};
+    ghost use Rattle.pq_schema.specs.Schema.{Schema, empty_schema};
+
+    ghost Value = { Schema };
+
+    ghost view = { λ c. unwrap_or (option_map (λ held. held.value) c.held) empty_schema };
+}
+
+/// The definitions of a catalog, and their numbers by name.
+struct Held {
     tables: Vec<Table>,
     definitions: Vec<Definition>,
     /// The numbers of the tables by their names.
@@ -27,10 +49,10 @@ pub struct Catalog {
     query_numbers: HashMap<String, u16>,
 }
 
-// Written out, so that whoever drops a catalog makes one call for it.
-impl Drop for Catalog {
+// Written out, so that a box of it is dropped by one call.
+impl Drop for Held {
     fn drop(self) {
-        let Catalog {
+        let Held {
             tables: _tables,
             definitions: _definitions,
             table_numbers: _table_numbers,
@@ -39,18 +61,18 @@ impl Drop for Catalog {
     }
 }
 
-impl Model for Catalog {
+impl Model for Held {
     ghost use Rattle.pq_schema.specs.Numbered.{AreNumbered};
     ghost use Rattle.pq_schema.specs.Schema.{Schema};
     ghost use Rattle.pq_schema.specs.Valid.{IsSound};
 
     ghost Value = { Schema };
 
-    ghost view = { λ c. record { tables = c.tables.items; definitions = c.definitions.items } };
+    ghost view = { λ h. record { tables = h.tables.items; definitions = h.definitions.items } };
 
-    ghost invariant = { λ c.
-        let schema : Schema = record { tables = c.tables.items; definitions = c.definitions.items } in
-        IsSound schema × AreNumbered schema c.table_numbers.entries c.query_numbers.entries };
+    ghost invariant = { λ h.
+        let schema : Schema = record { tables = h.tables.items; definitions = h.definitions.items } in
+        IsSound schema × AreNumbered schema h.table_numbers.entries h.query_numbers.entries };
 }
 
 impl Definition {
@@ -274,12 +296,11 @@ fn counter_place(definitions: &[Definition], name: &PText) -> Option<usize>
         .position(|definition| definition.is_counter(name))
 }
 
-impl Catalog {
-    /// No definitions.
-    pub fn new(alloc: Global) -> Catalog
+impl Held {
+    fn new(alloc: Global) -> Held
         ensures { result ≡ empty_schema }
     {
-        Catalog {
+        Held {
             tables: Vec::new(alloc),
             definitions: Vec::new(alloc),
             table_numbers: HashMap::new(alloc),
@@ -287,15 +308,46 @@ impl Catalog {
         }
     }
 
-    /// Tells a proof that the schema is valid.
-    pub fn known(&self)
+    fn known(&self)
         ensures { IsValid self.now }
     {
         let _tables = &self.tables;
     }
 
+    fn tables(&self) -> &[Table]
+        ensures tables { result.now ≡ self.now.tables }
+        ensures few { length self.now.tables ≤ 64 }
+    {
+        let _definitions = &self.definitions;
+        self.tables.as_slice()
+    }
+
+    fn definitions(&self) -> &[Definition]
+        ensures definitions { result.now ≡ self.now.definitions }
+        ensures few { length self.now.definitions ≤ 256 }
+    {
+        let _tables = &self.tables;
+        self.definitions.as_slice()
+    }
+
+    fn table(&self, number: u8) -> &Table
+        requires from_one { 1 ≤ number }
+        requires there { number ≤ length self.now.tables }
+        ensures { result.now ≡ table_at self.now.tables number }
+    {
+        &self.tables.as_slice()[number as usize - 1]
+    }
+
+    fn definition_at(&self, number: u16) -> &Definition
+        requires from_one { 1 ≤ number }
+        requires there { number ≤ length self.now.definitions }
+        ensures { result.now ≡ definition_at self.now number }
+    {
+        &self.definitions.as_slice()[number as usize - 1]
+    }
+
     /// The number of the table of this name, None exactly where there is none.
-    pub fn find_table(&self, name: &PText) -> Option<u8>
+    fn find_table(&self, name: &PText) -> Option<u8>
         ensures found { result ≡ find_table self.now name.now }
         ensures there { IfSome result (λ number. (1 ≤ number) × (number ≤ length self.now.tables)) }
     {
@@ -306,7 +358,7 @@ impl Catalog {
     }
 
     /// The number of the query of this name, None exactly where there is none.
-    pub fn find_query(&self, name: &PText) -> Option<u16>
+    fn find_query(&self, name: &PText) -> Option<u16>
         ensures { result ≡ find_query self.now name.now }
     {
         match self.query_numbers.get(name.as_str()) {
@@ -315,12 +367,131 @@ impl Catalog {
         }
     }
 
+    /// Puts a table behind the others, and its definition last. After `NoMem` nothing is changed.
+    fn push_table(&mut self, alloc: Global, table: Table) -> Result<(), NoMem>
+        requires next { IsValid (with_table self.old table) }
+        requires free { is_taken self.old table.name ≡ false }
+        requires columns { length table.columns ≤ 32 }
+        requires indexes { length table.indexes ≤ 16 }
+        ensures ok { OnOk result (self.new ≡ with_table self.old table) }
+        ensures err { OnErr result (self.new ≡ self.old) }
+    {
+        let name = String::from_str(alloc, table.name.as_str())?;
+        let number = self.tables.len() as u8 + 1;
+        self.tables.reserve(1)?;
+        make_room(&mut self.definitions, &mut self.table_numbers)?;
+        put_last(&mut self.definitions, made_table(number, &table));
+        put_last(&mut self.tables, table);
+        put_number(&mut self.table_numbers, name, number);
+        Ok(())
+    }
+
+    /// Puts a query's definition last, and the index that it wants behind those of its table. After
+    /// `NoMem` nothing is changed.
+    fn push_query(
+        &mut self,
+        alloc: Global,
+        query: Query,
+        wanted: Option<NewIndex>,
+    ) -> Result<(), NoMem>
+        requires defined { IsDefined self.old query wanted }
+        requires free { is_taken self.old query.name ≡ false }
+        ensures ok { OnOk result (self.new ≡ with_query self.old query wanted) }
+        ensures err { OnErr result (self.new ≡ self.old) }
+    {
+        let name = String::from_str(alloc, query.name.as_str())?;
+        let number = self.definitions.len() as u16 + 1;
+        let made = made_by(&wanted);
+        make_room(&mut self.definitions, &mut self.query_numbers)?;
+        put_wanted(alloc, &mut self.tables, wanted)?;
+        put_last(&mut self.definitions, Definition::OfQuery { query, made });
+        put_number(&mut self.query_numbers, name, number);
+        Ok(())
+    }
+
+    /// Puts a column behind the others of its table, and its definition last. After `NoMem` nothing is
+    /// changed.
+    fn push_column(
+        &mut self,
+        alloc: Global,
+        number: u8,
+        column: Column,
+        filler: Value,
+    ) -> Result<(), NoMem>
+        requires next { IsValid (with_column self.old number column filler) }
+        requires from_one { 1 ≤ number }
+        requires there { number ≤ length self.old.tables }
+        requires few { length (table_at self.old.tables number).columns ≤ 31 }
+        ensures ok { OnOk result (self.new ≡ with_column self.old number column filler) }
+        ensures err { OnErr result (self.new ≡ self.old) }
+    {
+        let col = self.table(number).columns.items().len() as u8;
+        self.definitions.reserve(1)?;
+        put_column(alloc, &mut self.tables, number, column, filler)?;
+        put_last(
+            &mut self.definitions,
+            Definition::OfColumn { table: number, col },
+        );
+        Ok(())
+    }
+
+    /// Puts a counter's definition last. After `NoMem` nothing is changed.
+    fn push_counter(&mut self, counter: Counter) -> Result<(), NoMem>
+        requires { IsValid (with_counter self.old counter) }
+        ensures ok { OnOk result (self.new ≡ with_counter self.old counter) }
+        ensures err { OnErr result (self.new ≡ self.old) }
+    {
+        self.definitions.reserve(1)?;
+        put_last(&mut self.definitions, Definition::OfCounter { counter });
+        Ok(())
+    }
+}
+
+impl Catalog {
+    /// No definitions.
+    pub fn new(_alloc: Global) -> Catalog
+        ensures { result ≡ empty_schema }
+    {
+        Catalog { held: None }
+    }
+
+    /// Tells a proof that the schema is valid.
+    pub fn known(&self)
+        ensures { IsValid self.now }
+    {
+        match &self.held {
+            None => {}
+            Some(held) => held.known(),
+        }
+    }
+
+    /// The number of the table of this name, None exactly where there is none.
+    pub fn find_table(&self, name: &PText) -> Option<u8>
+        ensures found { result ≡ find_table self.now name.now }
+        ensures there { IfSome result (λ number. (1 ≤ number) × (number ≤ length self.now.tables)) }
+    {
+        match &self.held {
+            None => None,
+            Some(held) => held.find_table(name),
+        }
+    }
+
+    /// The number of the query of this name, None exactly where there is none.
+    pub fn find_query(&self, name: &PText) -> Option<u16>
+        ensures { result ≡ find_query self.now name.now }
+    {
+        match &self.held {
+            None => None,
+            Some(held) => held.find_query(name),
+        }
+    }
+
     /// The number of the counter of this name among the definitions, None exactly where there is none.
     pub fn find_counter(&self, name: &PText) -> Option<u16>
         ensures found { result ≡ find_counter self.now name.now }
         ensures there { IfSome result (IsCounterNumber self.now) }
     {
-        match counter_place(self.definitions.as_slice(), name) {
+        match counter_place(self.definitions(), name) {
             None => None,
             Some(place) => Some(place as u16 + 1),
         }
@@ -340,7 +511,10 @@ impl Catalog {
         requires there { number ≤ length self.now.tables }
         ensures { result.now ≡ table_at self.now.tables number }
     {
-        &self.tables.as_slice()[number as usize - 1]
+        match &self.held {
+            None => unreachable!(),
+            Some(held) => held.table(number),
+        }
     }
 
     /// The tables in order.
@@ -348,8 +522,21 @@ impl Catalog {
         ensures tables { result.now ≡ self.now.tables }
         ensures few { length self.now.tables ≤ 64 }
     {
-        let _definitions = &self.definitions;
-        self.tables.as_slice()
+        match &self.held {
+            None => &[],
+            Some(held) => held.tables(),
+        }
+    }
+
+    /// The definitions in order.
+    fn definitions(&self) -> &[Definition]
+        ensures definitions { result.now ≡ self.now.definitions }
+        ensures few { length self.now.definitions ≤ 256 }
+    {
+        match &self.held {
+            None => &[],
+            Some(held) => held.definitions(),
+        }
     }
 
     /// The definition of this number, from 1.
@@ -358,7 +545,10 @@ impl Catalog {
         requires there { number ≤ length self.now.definitions }
         ensures { result.now ≡ definition_at self.now number }
     {
-        &self.definitions.as_slice()[number as usize - 1]
+        match &self.held {
+            None => unreachable!(),
+            Some(held) => held.definition_at(number),
+        }
     }
 
     /// The query of this definition's number, from 1.
@@ -386,7 +576,7 @@ impl Catalog {
         ensures { IfOk result (λ found. found ≡ counters_of self.now table) }
     {
         let mut found = List::new(alloc);
-        for (place, definition) in self.definitions.iter().enumerate() {
+        for (place, definition) in self.definitions().iter().enumerate() {
             if definition.is_counter_of(table) {
                 found.push(alloc, place as u16 + 1)?;
             }
@@ -403,14 +593,15 @@ impl Catalog {
         ensures ok { OnOk result (self.new ≡ with_table self.old table) }
         ensures err { OnErr result (self.new ≡ self.old) }
     {
-        let name = String::from_str(alloc, table.name.as_str())?;
-        let number = self.tables.len() as u8 + 1;
-        self.tables.reserve(1)?;
-        make_room(&mut self.definitions, &mut self.table_numbers)?;
-        put_last(&mut self.definitions, made_table(number, &table));
-        put_last(&mut self.tables, table);
-        put_number(&mut self.table_numbers, name, number);
-        Ok(())
+        match &mut self.held {
+            None => {
+                let mut held = Box::new(alloc, Held::new(alloc))?;
+                held.push_table(alloc, table)?;
+                self.held = Some(held);
+                Ok(())
+            }
+            Some(held) => held.push_table(alloc, table),
+        }
     }
 
     /// Puts a query's definition last, and the index that it wants behind those of its table. After
@@ -426,14 +617,10 @@ impl Catalog {
         ensures ok { OnOk result (self.new ≡ with_query self.old query wanted) }
         ensures err { OnErr result (self.new ≡ self.old) }
     {
-        let name = String::from_str(alloc, query.name.as_str())?;
-        let number = self.definitions.len() as u16 + 1;
-        let made = made_by(&wanted);
-        make_room(&mut self.definitions, &mut self.query_numbers)?;
-        put_wanted(alloc, &mut self.tables, wanted)?;
-        put_last(&mut self.definitions, Definition::OfQuery { query, made });
-        put_number(&mut self.query_numbers, name, number);
-        Ok(())
+        match &mut self.held {
+            None => unreachable!(),
+            Some(held) => held.push_query(alloc, query, wanted),
+        }
     }
 
     /// Puts a column behind the others of its table, and its definition last. After `NoMem` nothing is
@@ -452,25 +639,23 @@ impl Catalog {
         ensures ok { OnOk result (self.new ≡ with_column self.old number column filler) }
         ensures err { OnErr result (self.new ≡ self.old) }
     {
-        let col = self.table(number).columns.items().len() as u8;
-        self.definitions.reserve(1)?;
-        put_column(alloc, &mut self.tables, number, column, filler)?;
-        put_last(
-            &mut self.definitions,
-            Definition::OfColumn { table: number, col },
-        );
-        Ok(())
+        match &mut self.held {
+            None => unreachable!(),
+            Some(held) => held.push_column(alloc, number, column, filler),
+        }
     }
 
     /// Puts a counter's definition last. After `NoMem` nothing is changed.
+    #[tactic(auto, using(crate::proofs::Counters::counter_over_table))]
     pub fn push_counter(&mut self, counter: Counter) -> Result<(), NoMem>
         requires { IsValid (with_counter self.old counter) }
         ensures ok { OnOk result (self.new ≡ with_counter self.old counter) }
         ensures err { OnErr result (self.new ≡ self.old) }
     {
-        self.definitions.reserve(1)?;
-        put_last(&mut self.definitions, Definition::OfCounter { counter });
-        Ok(())
+        match &mut self.held {
+            None => unreachable!(),
+            Some(held) => held.push_counter(counter),
+        }
     }
 
     /// The foreign keys to the table of this number, in order of tables, then of declaration, each by its
@@ -478,8 +663,9 @@ impl Catalog {
     pub fn referring(&self, alloc: Global, table: u8) -> Result<List<Referring>, NoMem>
         ensures { IfOk result (λ found. found ≡ referring_limits self.now.tables table) }
     {
+        self.known();
         let mut found = List::new(alloc);
-        for (place, child) in self.tables.iter().enumerate() {
+        for (place, child) in self.tables().iter().enumerate() {
             push_foreign(
                 alloc,
                 &mut found,
@@ -496,7 +682,7 @@ impl Catalog {
         ensures defs { result ≡ length self.now.definitions }
         ensures few { length self.now.definitions ≤ 256 }
     {
-        self.definitions.len() as u16
+        self.definitions().len() as u16
     }
 
     /// The kind of a definition, by its number from 1.

@@ -7,13 +7,13 @@ use Rattle.pq_schema.proofs.catalog.Catalog.find_counter.Goals as goal
 
 pub returns-in-None-clause-found : goal.returns-in-None-clause-found
 returns-in-None-clause-found c =
-    let at = c.counter_place.ensures ∙ ap (λ (ds : List Definition). position (is_counter c.args.name.now) ds) c.as_slice.ensures.value in
-    rw (← c.self.view_is) (ap (option_map number_of) (sym c.in-None.is ∙ at))
+    let at = c.counter_place.ensures ∙ ap (λ (ds : List Definition). position (is_counter c.args.name.now) ds) c.definitions.ensures.definitions in
+    ap (option_map number_of) (sym c.in-None.is ∙ at)
 
 pub returns-in-Some-clause-found : goal.returns-in-Some-clause-found
 returns-in-Some-clause-found c =
-    let at = c.counter_place.ensures ∙ ap (λ (ds : List Definition). position (is_counter c.args.name.now) ds) c.as_slice.ensures.value in
-    rw (← c.self.view_is) (ap (option_map number_of) (sym c.in-Some.is ∙ at))
+    let at = c.counter_place.ensures ∙ ap (λ (ds : List Definition). position (is_counter c.args.name.now) ds) c.definitions.ensures.definitions in
+    ap (option_map number_of) (sym c.in-Some.is ∙ at)
 
 pub returns-in-Some-clause-there : goal.returns-in-Some-clause-there
 returns-in-Some-clause-there c =

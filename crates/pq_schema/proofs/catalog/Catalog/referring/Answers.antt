@@ -8,6 +8,7 @@ pub push_foreign-requires : goal.push_foreign-requires
 push_foreign-requires c =
     let i = c.loop-place.place in
     let child = c.child-item.result in
-    let at = c.child-item.is ∙ ap (λ (ts : List Table). get_or ts i child) c.deref-child-items.ensures.value in
+    let tables = c.tables-child-items.ensures.tables in
+    let at = c.child-item.is ∙ ap (λ (ts : List Table). get_or ts i child) tables in
     subst (λ (fs : List Foreign). length fs ≤ 4) (sym (c.items.ensures ∙ ap (λ (t : Table). t.foreign) at))
-    (few_foreign_at _ i child (valid_made c.self.invariant.0.valid) (subst (λ (ts : List Table). i < length ts) c.deref-child-items.ensures.value c.loop-place-test.true))
+    (few_foreign_at _ i child (valid_made c.known.ensures) (subst (λ (ts : List Table). i < length ts) tables c.loop-place-test.true))

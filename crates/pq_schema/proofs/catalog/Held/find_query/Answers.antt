@@ -1,7 +1,7 @@
 use Rattle.std.proofs.Common.{◌≡◌, ◌∙◌, sym, subst, Some, None}
 use Rattle.std.specs.Map.{lookup}
 use Rattle.pq_schema.specs.Numbered.{text_is}
-use Rattle.pq_schema.proofs.catalog.Catalog.find_query.Goals as goal
+use Rattle.pq_schema.proofs.catalog.Held.find_query.Goals as goal
 
 pub returns-in-None : goal.returns-in-None
 returns-in-None c =

@@ -5,7 +5,7 @@ use Rattle.pq_schema.specs.Numbered.{AreNumbered, PutsNumber}
 use Rattle.pq_schema.specs.Schema.{Schema, with_table}
 use Rattle.pq_schema.proofs.Numbered.{catalog_as, same_numbered, table_numbered}
 use Rattle.pq_schema.proofs.Valid.{valid_sound}
-use Rattle.pq_schema.proofs.catalog.Catalog.push_table.Goals as goal
+use Rattle.pq_schema.proofs.catalog.Held.push_table.Goals as goal
 
 pub invariant_of-self-2 : goal.invariant_of-self-2
 invariant_of-self-2 c =

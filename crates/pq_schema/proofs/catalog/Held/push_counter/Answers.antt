@@ -4,7 +4,7 @@ use Rattle.pq_schema.specs.Numbered.{AreNumbered}
 use Rattle.pq_schema.specs.Schema.{Schema, with_counter}
 use Rattle.pq_schema.proofs.Numbered.{catalog_as, counter_numbered}
 use Rattle.pq_schema.proofs.Valid.{valid_sound}
-use Rattle.pq_schema.proofs.catalog.Catalog.push_counter.Goals as goal
+use Rattle.pq_schema.proofs.catalog.Held.push_counter.Goals as goal
 
 pub invariant_of-self-2 : goal.invariant_of-self-2
 invariant_of-self-2 c =

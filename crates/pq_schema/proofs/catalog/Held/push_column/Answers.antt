@@ -5,7 +5,7 @@ use Rattle.pq_schema.specs.Schema.{Schema, with_added, with_column}
 use Rattle.pq_schema.specs.Tables.{table_at}
 use Rattle.pq_schema.proofs.Numbered.{catalog_as, column_numbered}
 use Rattle.pq_schema.proofs.Valid.{valid_sound}
-use Rattle.pq_schema.proofs.catalog.Catalog.push_column.Goals as goal
+use Rattle.pq_schema.proofs.catalog.Held.push_column.Goals as goal
 
 pub invariant_of-self-2 : goal.invariant_of-self-2
 invariant_of-self-2 c =

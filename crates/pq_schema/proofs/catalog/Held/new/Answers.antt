@@ -4,7 +4,7 @@ use Rattle.pq_schema.specs.Numbered.{text_is}
 use Rattle.pq_schema.specs.Schema.{empty_schema}
 use Rattle.pq_schema.proofs.Numbered.{catalog_as, none_numbered, same_numbered}
 use Rattle.pq_schema.proofs.Valid.{empty_sound}
-use Rattle.pq_schema.proofs.catalog.Catalog.new.Goals as goal
+use Rattle.pq_schema.proofs.catalog.Held.new.Goals as goal
 
 pub invariant_of-result : goal.invariant_of-result
 invariant_of-result c =

@@ -4,7 +4,7 @@ use Rattle.std.specs.Map.{lookup}
 use Rattle.pq_schema.specs.Numbered.{text_is}
 use Rattle.pq_schema.specs.Schema.{find_table}
 use Rattle.pq_schema.proofs.Numbered.{table_there}
-use Rattle.pq_schema.proofs.catalog.Catalog.find_table.Goals as goal
+use Rattle.pq_schema.proofs.catalog.Held.find_table.Goals as goal
 
 pub returns-in-Some-clause-there : goal.returns-in-Some-clause-there
 returns-in-Some-clause-there c =

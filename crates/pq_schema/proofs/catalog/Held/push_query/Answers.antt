@@ -8,7 +8,7 @@ use Rattle.pq_schema.specs.Valid.{IsValid}
 use Rattle.pq_schema.specs.Valid.IsValid.{then_query}
 use Rattle.pq_schema.proofs.Numbered.{catalog_as, same_numbered, query_numbered}
 use Rattle.pq_schema.proofs.Valid.{valid_sound, wanted_there}
-use Rattle.pq_schema.proofs.catalog.Catalog.push_query.Goals as goal
+use Rattle.pq_schema.proofs.catalog.Held.push_query.Goals as goal
 
 pub put_wanted-requires : goal.put_wanted-requires
 put_wanted-requires c =
