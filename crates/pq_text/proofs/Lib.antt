@@ -6,6 +6,7 @@ pub mod FormsByByte
 pub mod Fronts
 pub mod Growing
 pub mod Places
+pub mod Quiet
 pub mod Runs
 pub mod Spans
 pub mod Statements

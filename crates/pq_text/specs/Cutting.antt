@@ -28,6 +28,13 @@ shows state.Dash b = not (b == 45)
 shows state.Text b = true
 shows state.Comment b = false
 
+-- this byte leaves the state as it is, and no piece ends with it
+abbrev pub is_quiet : State → ℕ → Bool
+is_quiet state.Plain b = not (b == 39 || b == 45 || b == 59)
+is_quiet state.Dash b = false
+is_quiet state.Text b = not (b == 39)
+is_quiet state.Comment b = not (b == 10)
+
 abbrev pub is_dash : State → Bool
 is_dash state.Plain = false
 is_dash state.Dash = true

@@ -148,13 +148,21 @@ fn after(text: &[u8], at: usize) -> &[u8]
     &text[at + 1..]
 }
 
+/// For how many tokens to make room at first.
+fn token_room(text: &[u8]) -> usize
+    requires { length text.now ≤ text_limit }
+    ensures { result ≤ 64 }
+{
+    (text.len() / 2 + 1).min(64)
+}
+
 fn scan(alloc: Global, text: &[u8]) -> Result<List<Token>, NoMem>
     requires { length text.now ≤ text_limit }
     ensures found { IfOk result (λ found. found ≡ tokens_of text.now) }
     ensures order { IfOk result (InOrder 0 (length text.now)) }
     ensures slices { IfOk result (HaveForms text.now) }
 {
-    let mut tokens = List::new(alloc);
+    let mut tokens = List::with_room(alloc, token_room(text))?;
     let mut at = 0;
     'tokens: while at < text.len() {
         let byte = text[at];

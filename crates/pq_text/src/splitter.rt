@@ -1,8 +1,10 @@
 //! Cutting a script that comes in parts.
-ghost use Rattle.std.specs.Prelude.{◌≡◌, ◌+◌, ◌<◌, ◌≤◌, ◌||◌, ◌++◌, length, take, IfOk, OnOk, OnErr, List, ℕ, [], nat_lt, Some, None, true, false};
-ghost use Rattle.pq_text.specs.Cutting.{state_behind, is_solid, first_cut};
+ghost use Rattle.std.specs.Prelude.{◌≡◌, ◌+◌, ◌<◌, ◌≤◌, ◌||◌, ◌++◌, length, take, drop, take_while, IfOk, OnOk, OnErr, List, ℕ, [], nat_lt, Some, None, true, false};
+ghost use Rattle.std.specs.List.{list_any};
+ghost use Rattle.pq_text.specs.Cutting.{state_behind, is_solid, first_cut, is_quiet, shows};
 ghost use Rattle.pq_text.specs.Pieces.{piece_limit, statement, piece_list};
 ghost use Rattle.pq_text.specs.Summaries.{start_summary, grown_summary, told_of, taken_of, piece_in, left_in, pieces_from, unfinished_from};
+ghost use Rattle.pq_text.specs.declared.state.State.TheVariants as state;
 
 use crate::piece::Piece;
 use crate::state::State;
@@ -19,6 +21,65 @@ struct Stop {
     solid: bool,
 }
 
+fn plain_count(bytes: &[u8]) -> usize
+    ensures count { result ≡ length (take_while (is_quiet state.Plain) bytes.now) }
+    ensures within { result ≤ length bytes.now }
+{
+    bytes
+        .iter()
+        .take_while(|byte| !(**byte == b'\'' || **byte == b'-' || **byte == b';'))
+        .count()
+}
+
+fn text_count(bytes: &[u8]) -> usize
+    ensures count { result ≡ length (take_while (is_quiet state.Text) bytes.now) }
+    ensures within { result ≤ length bytes.now }
+{
+    bytes.iter().take_while(|byte| **byte != b'\'').count()
+}
+
+fn comment_count(bytes: &[u8]) -> usize
+    ensures count { result ≡ length (take_while (is_quiet state.Comment) bytes.now) }
+    ensures within { result ≤ length bytes.now }
+{
+    bytes.iter().take_while(|byte| **byte != b'\n').count()
+}
+
+/// What stands from this place on.
+fn behind(bytes: &[u8], len: usize) -> &[u8]
+    requires { len ≤ length bytes.now }
+    ensures { result.now ≡ drop len bytes.now }
+{
+    &bytes[len..]
+}
+
+/// How many bytes at the front leave this state as it is.
+#[tactic(auto, using(crate::proofs::Quiet::no_dash_quiet))]
+fn quiet_count(state: State, bytes: &[u8]) -> usize
+    ensures count { result ≡ length (take_while (is_quiet state) bytes.now) }
+    ensures within { result ≤ length bytes.now }
+{
+    match state {
+        State::Plain => plain_count(bytes),
+        State::Dash => 0,
+        State::Text => text_count(bytes),
+        State::Comment => comment_count(bytes),
+    }
+}
+
+/// Whether one of these bytes, none of which changes the state, shows one.
+fn are_solid(state: State, quiet: &[u8]) -> bool
+    ensures { result ≡ list_any (shows state) quiet.now }
+{
+    quiet.iter().any(|byte| state.shows(*byte))
+}
+
+fn still_solid(solid: bool, state: State, quiet: &[u8]) -> bool
+    ensures { result ≡ (solid || list_any (shows state) quiet.now) }
+{
+    solid || are_solid(state, quiet)
+}
+
 fn scan(start: State, bytes: &[u8]) -> Stop
     ensures within { result.len ≤ length bytes.now }
     ensures some { 0 < length bytes.now → 0 < result.len }
@@ -31,6 +92,13 @@ fn scan(start: State, bytes: &[u8]) -> Stop
     let mut solid = false;
     let mut len = 0;
     'bytes: while len < bytes.len() {
+        let rest = behind(bytes, len);
+        let quiet = quiet_count(state, rest);
+        if quiet > 0 {
+            solid = still_solid(solid, state, front(rest, quiet));
+            len += quiet;
+            continue;
+        }
         let byte = bytes[len];
         let cut = state.cuts(byte);
         solid = either(solid, state.shows(byte));
