@@ -1,9 +1,11 @@
 -- The place of a word in a list of different words.
-use Rattle.std.proofs.Common.{◌≡◌, ℕ, zero, suc, ◌<◌, Bool, true, false, cond, List, [], ◌∷◌, Some, None, refl, sym, ap, ◌∙◌, arith}
-use Rattle.std.specs.Prelude.{slice_get, bytes_eq}
+use Rattle.std.proofs.Common.{◌≡◌, ℕ, zero, suc, ◌+◌, ◌<◌, ◌≤◌, Bool, true, false, cond, ltb, List, [], ◌∷◌, map, Some, None, inl, inr, refl, sym, ap, subst, ◌∙◌, arith}
+use Rattle.std.proofs.lemmas.Bool.{cases_lt, ltb-true, true≢false}
+use Rattle.std.specs.Prelude.{slice_get, slice_index, bytes_eq}
 use Rattle.std.proofs.lemmas.Slice.Eq.{bytes_eq-Decides}
 use Rattle.std.proofs.lemmas.Option.{slice_get_within}
-use Rattle.pq_base.specs.Words.{keywords}
+use Rattle.pq_base.specs.Words.{uppercase_byte, keywords}
+use Rattle.pq_shape.specs.Letters.{letter_places}
 use Rattle.pq_shape.specs.Shapes.{word_place}
 
 same_true : (w : List ℕ) → bytes_eq w w ≡ true
@@ -65,3 +67,64 @@ keyword_found w k e = place_found keywords w k keywords_distinct e
 
 pub keyword_within : (w : List ℕ) (k : ℕ) → slice_get keywords k ≡ Some w → k < 35
 keyword_within w k e = slice_get_within keywords k w e
+
+-- a word of the table, and whether it is w
+pub keyword_here : (v w : List ℕ) (k : ℕ) → slice_get keywords k ≡ Some v → bytes_eq v w ≡ true → Some k ≡ word_place keywords w
+keyword_here v w k e is = sym (keyword_found w k (e ∙ ap (λ (u : List ℕ). Some u) (same_is v w is)))
+
+pub keyword_beyond : (v w : List ℕ) (place : ℕ) → slice_get keywords place ≡ Some v → bytes_eq v w ≡ false → ((k : ℕ) → k < place → slice_get keywords k ≡ Some w → ⊥)
+    → (k : ℕ) → k < place + 1 → slice_get keywords k ≡ Some w → ⊥
+keyword_beyond v w place e isnt before k lt at =
+    elim (cases_lt k place) [
+      | inl less ↦ before k less at
+      | inr ge ↦
+          let same : place ≡ k = omega arith in
+          let is : v ≡ w = some_is v w (sym e ∙ ap (slice_get keywords) same ∙ at) in
+          true≢false (sym (same_true w) ∙ ap (λ (u : List ℕ). bytes_eq u w) (sym is) ∙ isnt)
+    ]
+
+abbrev IsAmong : ℕ × ℕ → ℕ → Type 0
+IsAmong places k = (places.0 ≤ k) × (k < places.1)
+
+is_among : ℕ × ℕ → ℕ → Bool
+is_among places k = cond (ltb places.0 (k + 1)) (ltb k places.1) false
+
+among_here : (places : ℕ × ℕ) (k : ℕ) → is_among places k ≡ true → IsAmong places k
+unfolding is_among
+among_here places k h =
+    let b = both_true (ltb places.0 (k + 1)) (ltb k places.1) h in
+    (omega (arith, ltb-true places.0 (k + 1) b.0), ltb-true k places.1 b.1)
+
+-- each of these words, the first of which stands at k, is among the places of its first letter
+stand_among : ℕ → List (List ℕ) → Bool
+stand_among k [] = true
+stand_among k (w ∷ ws) = cond (is_among (letter_places (slice_index w 0)) k) (stand_among (k + 1) ws) false
+
+stands_at : (ws : List (List ℕ)) (k place : ℕ) (w : List ℕ) → stand_among k ws ≡ true → slice_get ws place ≡ Some w → IsAmong (letter_places (slice_index w 0)) (k + place)
+unfolding stand_among
+stands_at [] k place w h e = absurd cc
+stands_at (v ∷ vs) k zero w h e =
+    let b = both_true (is_among (letter_places (slice_index v 0)) k) (stand_among (k + 1) vs) h in
+    let same : k ≡ k + 0 = omega arith in
+    subst (λ (n : ℕ). IsAmong (letter_places (slice_index w 0)) n) same
+    (subst (λ (u : List ℕ). IsAmong (letter_places (slice_index u 0)) k) (some_is v w e) (among_here _ k b.0))
+stands_at (v ∷ vs) k (suc place) w h e =
+    let b = both_true (is_among (letter_places (slice_index v 0)) k) (stand_among (k + 1) vs) h in
+    let same : (k + 1) + place ≡ k + suc place = omega arith in
+    subst (λ (n : ℕ). IsAmong (letter_places (slice_index w 0)) n) same (stands_at vs (k + 1) place w b.1 e)
+
+keywords_stand : stand_among 0 keywords ≡ true
+unfolding stand_among is_among letter_places
+keywords_stand = refl
+
+first_raised : (bs : List ℕ) → slice_index (map uppercase_byte bs) 0 ≡ uppercase_byte (slice_index bs 0)
+first_raised [] = refl
+first_raised (b ∷ bs) = refl
+
+pub keyword_among : (bs : List ℕ) (capital from to : ℕ) → capital ≡ uppercase_byte (slice_index bs 0) → (from, to) ≡ letter_places capital
+    → (place : ℕ) → slice_get keywords place ≡ Some (map uppercase_byte bs) → (from ≤ place) × (place < to)
+keyword_among bs capital from to e f place at =
+    let here : IsAmong (letter_places (slice_index (map uppercase_byte bs) 0)) (0 + place) = stands_at keywords 0 place (map uppercase_byte bs) keywords_stand at in
+    let same : 0 + place ≡ place = omega arith in
+    let letter : letter_places (slice_index (map uppercase_byte bs) 0) ≡ (from, to) = ap letter_places (first_raised bs ∙ sym e) ∙ sym f in
+    subst (λ (places : ℕ × ℕ). IsAmong places place) letter (subst (λ (n : ℕ). IsAmong (letter_places (slice_index (map uppercase_byte bs) 0)) n) same here)

@@ -1,5 +1,6 @@
 pub mod Numbers
 pub mod Shapes
+pub mod Letters
 pub mod Front
 pub mod Parts
 pub mod Operators

@@ -1,7 +1,8 @@
 //! What each token of a text stands for.
-ghost use Rattle.std.specs.Prelude.{◌≡◌, ◌<◌, Some, None, IfOk, OnOk, MatchOption, length, map, ◌++◌, slice_range, ◌-◌, false};
+ghost use Rattle.std.specs.Prelude.{◌≡◌, ◌<◌, ◌≤◌, ℕ, Some, None, IfOk, OnOk, MatchOption, length, map, ◌++◌, slice_range, slice_index, slice_get, bytes_eq, ◌-◌, false};
 ghost use Rattle.pq_base.specs.Words.{uppercase_byte, keywords};
 ghost use Rattle.pq_shape.specs.Shapes.{bytes_of, word_place, lowercase_bytes, utf8_text, name_shape, word_shape, kept_byte, is_kept_quote, undoubled_quotes, number_or_other, mark_code, kind_shape, shape_of, shapes_of};
+ghost use Rattle.pq_shape.specs.Letters.{letter_places};
 ghost use Rattle.pq_shape.specs.Numbers.{digits_number};
 ghost use Rattle.pq_text.specs.declared.token.Kind.TheVariants as kind;
 
@@ -36,21 +37,90 @@ fn bytes_at(text: &[u8], token: Token) -> &[u8]
     &text[from..to]
 }
 
+/// The first byte with its ASCII letter raised, 0 where there is none.
+fn capital(bytes: &[u8]) -> u8
+    ensures { result ≡ uppercase_byte (slice_index bytes.now 0) }
+{
+    match bytes {
+        [first, ..] => first.to_ascii_uppercase(),
+        [] => 0,
+    }
+}
+
+/// Where the keywords with this capital stand in the keyword table: the first place, and the one behind the last.
+#[tactic(auto, unfolding(crate::specs::Letters::letter_places))]
+fn letter_places(capital: u8) -> (usize, usize)
+    ensures places { (result.0, result.1) ≡ letter_places capital }
+    ensures within { result.1 ≤ 35 }
+{
+    match capital {
+        b'A' => (0, 4),
+        b'B' => (4, 6),
+        b'C' => (6, 8),
+        b'D' => (8, 10),
+        b'E' => (10, 11),
+        b'F' => (11, 14),
+        b'I' => (14, 17),
+        b'J' => (17, 18),
+        b'K' => (18, 19),
+        b'L' => (19, 20),
+        b'O' => (20, 21),
+        b'P' => (21, 24),
+        b'R' => (24, 26),
+        b'S' => (26, 29),
+        b'T' => (29, 32),
+        b'U' => (32, 33),
+        b'V' => (33, 34),
+        b'W' => (34, 35),
+        _ => (0, 0),
+    }
+}
+
+/// Whether these bytes are the word, in any letter case.
+fn is_word(word: &[u8], bytes: &[u8]) -> bool
+    ensures { result ≡ bytes_eq word.now (map uppercase_byte bytes.now) }
+{
+    match word {
+        [] => bytes.is_empty(),
+        [letter, word @ ..] => match bytes {
+            [] => false,
+            [byte, bytes @ ..] => *letter == byte.to_ascii_uppercase() && is_word(word, bytes),
+        },
+    }
+}
+
+/// The place of the keyword among some places that hold it, if it stands anywhere.
+fn keyword_among(bytes: &[u8], from: usize, to: usize) -> Option<u8>
+    requires within { to ≤ 35 }
+    requires among { (place : ℕ) → slice_get keywords place ≡ Some (map uppercase_byte bytes.now)
+        → (from ≤ place) × (place < to) }
+    ensures { result ≡ word_place keywords (map uppercase_byte bytes.now) }
+{
+    let table = keyword_table();
+    let mut place = from;
+    'places: while place < to {
+        if is_word(table.word(place).as_bytes(), bytes) {
+            return Some(place as u8);
+        }
+        place += 1;
+    }
+    None
+}
+
 /// The place of a word in the keyword table, in any letter case.
 fn keyword(bytes: &[u8]) -> Option<u8>
     ensures { result ≡ word_place keywords (map uppercase_byte bytes.now) }
 {
-    match keyword_table().lookup(bytes) {
-        Some(place) => Some(place as u8),
-        None => None,
-    }
+    let (from, to) = letter_places(capital(bytes));
+    keyword_among(bytes, from, to)
 }
 
 /// The bytes with the ASCII letters lowered.
 fn lower(alloc: Global, bytes: &[u8]) -> Result<Bytes, NoMem>
     ensures { IfOk result (λ low. low ≡ lowercase_bytes bytes.now) }
 {
-    let low = bytes.iter().map(|b| b.to_ascii_lowercase()).collect(alloc)?;
+    let mut low = Vec::from_slice(alloc, bytes)?;
+    low.make_ascii_lowercase();
     Ok(Bytes::from_vec(low))
 }
 
