@@ -4,10 +4,11 @@ ghost use Rattle.pq_base.specs.Columns.{set_of};
 ghost use Rattle.pq_base.specs.declared.value.Dir.TheVariants.{Asc};
 ghost use Rattle.pq_key_code.specs.KeyCode.{code_of, component, row_key};
 ghost use Rattle.pq_schema.specs.Sound.{AreColumns, AreParts};
-ghost use Rattle.pq_schema.specs.Sequences.{then_key, index_sequence};
+ghost use Rattle.pq_schema.specs.Sequences.{columns_of, then_key, index_sequence};
 ghost use Rattle.pq_content.specs.Pairs.{entry_pair};
 ghost use Rattle.pq_content.specs.Tables.{value_of, cells};
 ghost use Rattle.pq_row_keys.specs.Coded.{sequence_code};
+ghost use Rattle.pq_row_keys.specs.Groups.{values_from};
 ghost use Rattle.pq_schema.specs.Keys.{given_value};
 
 use pq_base::{Bytes, ColSet, Dir, NoMem, Row, Value, no_value};
@@ -45,6 +46,57 @@ fn put_given(
             }
         }
         _ => put_component(alloc, out, dir, &no_value()),
+    }
+}
+
+/// Puts the value that a column is given, where these columns are given the row's values at them.
+fn put_given_cell(
+    alloc: Global,
+    out: &mut Bytes,
+    dir: Dir,
+    cols: &[u8],
+    row: &[Value],
+    col: u8,
+) -> Result<(), NoMem>
+    ensures { OnOk result (out.new ≡ out.old ++ component dir (given_value cols.now (cells cols.now row.now) col)) }
+{
+    match cols.split_first() {
+        Some((other, cols)) => {
+            if *other == col {
+                put_cell(alloc, out, dir, row, col)
+            } else {
+                put_given_cell(alloc, out, dir, cols, row, col)
+            }
+        }
+        None => put_component(alloc, out, dir, &no_value()),
+    }
+}
+
+/// Where columns have their values.
+#[derive(Clone, Copy)]
+pub(crate) enum Source {
+    /// In the order of the columns.
+    InOrder,
+    /// In a row, each at its column's place.
+    InRow,
+}
+
+/// Puts the value that a column is given, where these columns have their values so.
+fn put_from(
+    alloc: Global,
+    out: &mut Bytes,
+    dir: Dir,
+    source: Source,
+    cols: &[u8],
+    values: &[Value],
+    col: u8,
+) -> Result<(), NoMem>
+    ensures { OnOk result (out.new
+        ≡ out.old ++ component dir (given_value cols.now (values_from source cols.now values.now) col)) }
+{
+    match source {
+        Source::InOrder => put_given(alloc, out, dir, cols, values, col),
+        Source::InRow => put_given_cell(alloc, out, dir, cols, values, col),
     }
 }
 
@@ -122,25 +174,28 @@ pub fn entry_of(
     Ok(key)
 }
 
-/// Puts the first components of the parts and then the key columns that are not in the set: as many as
+/// Puts the first components of the parts and then the key columns that are not of the parts: as many as
 /// there are columns, each with the value that it is given.
 pub(crate) fn put_first(
     alloc: Global,
     out: &mut Bytes,
     parts: &[KeyPart],
-    set: ColSet,
     key: &[u8],
+    source: Source,
     cols: &[u8],
     values: &[Value],
 ) -> Result<(), NoMem>
+    requires parts { AreParts parts.now }
     requires key { AreColumns key.now }
     requires columns { AreColumns cols.now }
-    ensures { OnOk result (out.new ≡ out.old ++ sequence_code (given_value cols.now values.now)
-        (take (count_ones (set_of cols.now)) (then_key parts.now set key.now))) }
+    ensures { OnOk result (out.new
+        ≡ out.old ++ sequence_code (given_value cols.now (values_from source cols.now values.now))
+        (take (count_ones (set_of cols.now)) (then_key parts.now (set_of (columns_of parts.now)) key.now))) }
 {
+    let set = columns_in(parts);
     for place in 0..ColSet::of(cols).count() as usize {
         match part_at(parts, set, key, place) {
-            Some(part) => put_given(alloc, out, part.dir, cols, values, part.col)?,
+            Some(part) => put_from(alloc, out, part.dir, source, cols, values, part.col)?,
             None => return Ok(()),
         }
     }

@@ -6,6 +6,6 @@ mod groups;
 mod keys;
 mod rows;
 
-pub use groups::group_key;
+pub use groups::{group_key, group_key_of};
 pub use keys::{entry_of, key_at, put_cells};
 pub use rows::{all_given, given, null_at, same_cells, same_entry, values_at};

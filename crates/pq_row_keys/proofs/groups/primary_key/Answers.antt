@@ -1,10 +1,11 @@
-use Rattle.std.proofs.Common.{count_ones}
+use Rattle.std.proofs.Common.{refl, count_ones}
 use Rattle.pq_base.specs.Columns.{set_of}
 use Rattle.pq_schema.specs.Keys.{given_value}
+use Rattle.pq_row_keys.specs.Groups.{values_from}
 use Rattle.pq_row_keys.proofs.CodedKeys.{primary_made}
 use Rattle.pq_row_keys.proofs.groups.primary_key.Goals as goal
 
 pub returns : goal.returns
 returns c =
-    primary_made (given_value c.args.cols.now c.args.values.now) c.args.number c.args.table.now (count_ones (set_of c.args.cols.now)) c.empty.result c.items.result.now _ _
-    c.empty.ensures c.items.ensures c.in_ok-front.ensures c.in_ok-put_first.ensures
+    primary_made (given_value c.args.cols.now (values_from c.args.source c.args.cols.now c.args.values.now)) c.args.number c.args.table.now (count_ones (set_of c.args.cols.now)) 0 c.items.result.now _ _
+    refl c.items.ensures c.in_ok-front.ensures c.in_ok-put_first.ensures
