@@ -44,7 +44,7 @@ regroup front b (Some x) = ap (λ (t : List ℕ). Some (t, x.1)) (simp append_as
 two_at' : (bs : List ℕ) (i : ℕ) → i + 1 < length bs → drop (i + 1) bs ≡ get_or bs (i + 1) 0 ∷ drop (i + 2) bs
 two_at' bs i lt = drop_more bs (i + 1) 0 lt ∙ ap (λ (k : ℕ). get_or bs (i + 1) 0 ∷ drop k bs) (omega arith)
 
-two_at : (bs : List ℕ) (i : ℕ) → i + 1 < length bs → drop i bs ≡ get_or bs i 0 ∷ get_or bs (i + 1) 0 ∷ drop (i + 2) bs
+pub two_at : (bs : List ℕ) (i : ℕ) → i + 1 < length bs → drop i bs ≡ get_or bs i 0 ∷ get_or bs (i + 1) 0 ∷ drop (i + 2) bs
 two_at bs i lt = drop_more bs i 0 (omega arith) ∙ ap (λ (t : List ℕ). get_or bs i 0 ∷ t) (two_at' bs i lt)
 
 pub plain_byte : (d : Dir) (front new bs : List ℕ) (i b : ℕ) (total : Option (List ℕ × List ℕ)) → i + 1 < length bs → b ≡ turned_byte d (get_or bs i 0) → b ≢ 0 → new ≡ front ++ b ∷ []

@@ -2,6 +2,7 @@
 use Rattle.std.proofs.Common.{◌≡◌, ◌≢◌, ℕ, zero, suc, ◌-◌, ◌+◌, ◌^◌, ◌≤◌, ◌<◌, Bool, true, false, cond, eqb, ltb, List, [], ◌∷◌, ◌++◌, length, map, take, drop, get_or, Option, Some, None, refl, sym, ap, subst, ◌∙◌, append_assoc, arith, inl, inr}
 use Rattle.std.specs.Prelude.{T, ◌==◌, ◌&&◌, ℤ, pos, negsuc, ◌⊎◌, IsUtf8, FitsSigned, Result, Ok, Err, IfOk, IfSome, IfNone}
 use Rattle.std.specs.Str.{is_utf8}
+use Rattle.std.specs.List.{list_any}
 use Rattle.std.specs.Int.{w64, to_be_bytes, from_be_bytes}
 use Rattle.std.proofs.lemmas.Bool.{false≢true, and_parts, ne_eqb, eqb-true, eqb-false, ltb-true, ltb-false, le-ltb, lt-ltb}
 use Rattle.std.proofs.lemmas.Int.{ints}
@@ -20,6 +21,7 @@ use Rattle.pq_base.specs.Values.{FitsType, AllFit, IsOfDataKind, is_null, kind_o
 use Rattle.pq_key_code.specs.KeyCode.{IsBytes, above_least, escaped_text, payload, turned_byte, null_marker, marker, component, code_of}
 use Rattle.pq_key_code.specs.KeyReading.{◌>>=◌, from_least, number_at, truth_at, value_behind, text_value_at, text_within, payload_at, component_at, row_key_at, key_at}
 use Rattle.pq_key_code.proofs.Bytes.{IsBytes-to_be}
+use Rattle.pq_key_code.proofs.Loop.{two_at}
 use Rattle.pq_key_code.proofs.Order.{utf8_bytes, above_least_below}
 
 -- ---- bytes
@@ -365,3 +367,34 @@ pub is_none_left : {E : Type 0} (ts : List ColType) (ds : List Dir) (bs : List �
 is_none_left ts ds bs (Ok (Some v)) len h = tt
 is_none_left ts ds bs (Ok None) len h = λ xs fits e. none_some xs (h ∙ ap (key_at ts ds) (sym e) ∙ key_again ts ds xs len fits)
 is_none_left ts ds bs (Err e) len h = tt
+
+-- ---- texts that ascend and have no zero
+
+no_zero_bytes : (t rest : List ℕ) → list_any (λ b. b == 0) t ≡ false → text_value_at Asc (t ++ 0 ∷ 1 ∷ rest) ≡ Some (t, rest)
+unfolding text_value_at
+no_zero_bytes [] rest none = refl
+no_zero_bytes (zero ∷ t) rest none = absurd cc
+no_zero_bytes (suc b ∷ t) rest none =
+    let ne : suc b ≢ 0 = λ e. absurd (omega (arith, e)) in
+    text_plain Asc (suc b) (t ++ 0 ∷ 1 ∷ rest) ne (omega (arith, length-append t (0 ∷ 1 ∷ rest)))
+    ∙ ap (value_behind (suc b)) (no_zero_bytes t rest (rw (ne_eqb (suc b) 0 ne) at none))
+
+-- what is read of a text that ends at the first zero
+pub plain_text : (n : ℕ) (bytes : List ℕ) → n + 1 < length bytes → list_any (λ b. b == 0) (take n bytes) ≡ false → get_or bytes n 0 ≡ 0 → get_or bytes (n + 1) 0 ≡ 1
+    → Some (take n bytes, drop (n + 2) bytes) ≡ text_value_at Asc bytes
+plain_text n bytes lt none ends behind =
+    let both : drop n bytes ≡ 0 ∷ 1 ∷ drop (n + 2) bytes = two_at bytes n lt ∙ ap (λ (b : ℕ). b ∷ get_or bytes (n + 1) 0 ∷ drop (n + 2) bytes) ends ∙ ap (λ (b : ℕ). 0 ∷ b ∷ drop (n + 2) bytes) behind in
+    sym (no_zero_bytes (take n bytes) (drop (n + 2) bytes) none)
+    ∙ ap (λ (b : List ℕ). text_value_at Asc (take n bytes ++ b)) (sym both) ∙ ap (text_value_at Asc) (take-append-drop n bytes)
+
+-- one byte more that is not zero
+pub plain_more : (bytes : List ℕ) (i : ℕ) → i < length bytes → get_or bytes i 0 ≢ 0 → list_any (λ b. b == 0) (take i bytes) ≡ false → list_any (λ b. b == 0) (take (i + 1) bytes) ≡ false
+plain_more [] i lt ne none = absurd (omega arith)
+plain_more (zero ∷ bytes) zero lt ne none = absurd (ne refl)
+plain_more (zero ∷ bytes) (suc i) lt ne none = absurd cc
+plain_more (suc b ∷ bytes) zero lt ne none = rw (ne_eqb (suc b) 0 (λ e. absurd (omega (arith, e)))) refl
+plain_more (suc b ∷ bytes) (suc i) lt ne none =
+    let apart : eqb (suc b) 0 ≡ false = ne_eqb (suc b) 0 (λ e. absurd (omega (arith, e))) in
+    ap (λ (n : ℕ). list_any (λ b. b == 0) (take n (suc b ∷ bytes))) more ∙ rw apart (plain_more bytes i (omega arith) ne (rw apart at none)) where
+      more : suc i + 1 ≡ suc (i + 1)
+      more = omega arith

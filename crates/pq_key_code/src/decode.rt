@@ -1,6 +1,8 @@
 //! From key codes to values.
-ghost use Rattle.std.specs.Prelude.{◌≡◌, List, length, IfOk, IfSome, IfNone};
+ghost use Rattle.std.specs.Prelude.{◌≡◌, ◌≤◌, ◌==◌, false, List, length, take, slice_index_or, IfOk, IfSome, IfNone};
+ghost use Rattle.std.specs.List.{list_any};
 ghost use Rattle.std.specs.Option.{option_map};
+ghost use Rattle.pq_base.specs.declared.value.Dir.TheVariants.{Asc};
 ghost use Rattle.pq_base.specs.declared.value.Value.{Value};
 ghost use Rattle.pq_base.specs.Values.{AllFit};
 ghost use Rattle.pq_key_code.specs.KeyCode.{code_of};
@@ -50,7 +52,7 @@ fn truth_of(dir: Dir, bytes: &[u8]) -> Option<(bool, &[u8])>
 }
 
 #[tactic(auto, unfolding(crate::specs::KeyReading::text_value_at))]
-fn text_of(alloc: Global, dir: Dir, bytes: &[u8]) -> Result<Option<(Bytes, &[u8])>, NoMem>
+fn unescaped_text(alloc: Global, dir: Dir, bytes: &[u8]) -> Result<Option<(Bytes, &[u8])>, NoMem>
     ensures { IfOk result (λ read. option_map (λ x. (x.0, x.1.now)) read ≡ text_value_at dir bytes.now) }
 {
     let mut text = Bytes::with_room(alloc, bytes.len())?;
@@ -72,6 +74,42 @@ fn text_of(alloc: Global, dir: Dir, bytes: &[u8]) -> Result<Option<(Bytes, &[u8]
         }
     }
     Ok(None)
+}
+
+/// How many bytes stand before the first zero.
+#[tactic(auto, using(crate::proofs::Reading::plain_more))]
+fn plain_len(bytes: &[u8]) -> usize
+    ensures within { result ≤ length bytes.now }
+    ensures plain { list_any (λ byte. byte == 0) (take result bytes.now) ≡ false }
+    ensures ends { slice_index_or bytes.now result 0 ≡ 0 }
+{
+    let mut len = 0;
+    while len < bytes.len() && bytes[len] != 0 {
+        len += 1;
+    }
+    len
+}
+
+// Most texts have no zero to escape.
+fn ascending_text(alloc: Global, bytes: &[u8]) -> Result<Option<(Bytes, &[u8])>, NoMem>
+    ensures { IfOk result (λ read. option_map (λ x. (x.0, x.1.now)) read ≡ text_value_at Asc bytes.now) }
+{
+    let len = plain_len(bytes);
+    if len + 1 < bytes.len() && bytes[len + 1] == 1 {
+        let text = Bytes::of_bytes(alloc, &bytes[..len])?;
+        Ok(Some((text, &bytes[len + 2..])))
+    } else {
+        unescaped_text(alloc, Dir::Asc, bytes)
+    }
+}
+
+fn text_of(alloc: Global, dir: Dir, bytes: &[u8]) -> Result<Option<(Bytes, &[u8])>, NoMem>
+    ensures { IfOk result (λ read. option_map (λ x. (x.0, x.1.now)) read ≡ text_value_at dir bytes.now) }
+{
+    match dir {
+        Dir::Asc => ascending_text(alloc, bytes),
+        Dir::Desc => unescaped_text(alloc, dir, bytes),
+    }
 }
 
 /// The text of these bytes. None exactly where they are more than `most` or no UTF-8.

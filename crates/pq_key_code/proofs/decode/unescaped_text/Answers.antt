@@ -1,6 +1,6 @@
 use Rattle.std.proofs.Common.{arith}
 use Rattle.pq_key_code.proofs.Loop.{plain_byte, zero_byte, text_short}
-use Rattle.pq_key_code.proofs.decode.text_of.Goals as goal
+use Rattle.pq_key_code.proofs.decode.unescaped_text.Goals as goal
 
 pub loop-i-preserved-then-byte-ne0 : goal.loop-i-preserved-then-byte-ne0
 loop-i-preserved-then-byte-ne0 c = record {
