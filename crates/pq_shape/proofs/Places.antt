@@ -1,9 +1,9 @@
 -- The place of a word in a list of different words.
-use Rattle.std.proofs.Common.{◌≡◌, ℕ, zero, suc, ◌+◌, ◌<◌, ◌≤◌, Bool, true, false, cond, ltb, List, [], ◌∷◌, map, Some, None, inl, inr, refl, sym, ap, subst, ◌∙◌, arith}
+use Rattle.std.proofs.Common.{◌≡◌, ℕ, zero, suc, ◌+◌, ◌<◌, ◌≤◌, Bool, true, false, cond, ltb, List, [], ◌∷◌, length, map, Some, None, inl, inr, refl, sym, ap, subst, ◌∙◌, arith}
 use Rattle.std.proofs.lemmas.Bool.{cases_lt, ltb-true, true≢false}
 use Rattle.std.specs.Prelude.{slice_get, slice_index, bytes_eq}
 use Rattle.std.proofs.lemmas.Slice.Eq.{bytes_eq-Decides}
-use Rattle.std.proofs.lemmas.Option.{slice_get_within}
+use Rattle.std.proofs.lemmas.List.{length-map}
 use Rattle.pq_base.specs.Words.{uppercase_byte, keywords}
 use Rattle.pq_shape.specs.Letters.{letter_places}
 use Rattle.pq_shape.specs.Shapes.{word_place}
@@ -65,8 +65,13 @@ keywords_distinct = refl
 pub keyword_found : (w : List ℕ) (k : ℕ) → slice_get keywords k ≡ Some w → word_place keywords w ≡ Some k
 keyword_found w k e = place_found keywords w k keywords_distinct e
 
-pub keyword_within : (w : List ℕ) (k : ℕ) → slice_get keywords k ≡ Some w → k < 35
-keyword_within w k e = slice_get_within keywords k w e
+-- a word of another length is another one
+pub other_length : (v bs : List ℕ) → (length v ≡ length bs → ⊥) → bytes_eq v (map uppercase_byte bs) ≡ false
+other_length v bs ne = by_test (bytes_eq v (map uppercase_byte bs)) refl
+  where
+    by_test : (is : Bool) → bytes_eq v (map uppercase_byte bs) ≡ is → is ≡ false
+    by_test false e = refl
+    by_test true e = absurd (ne (ap length (same_is v (map uppercase_byte bs) e) ∙ length-map bs uppercase_byte))
 
 -- a word of the table, and whether it is w
 pub keyword_here : (v w : List ℕ) (k : ℕ) → slice_get keywords k ≡ Some v → bytes_eq v w ≡ true → Some k ≡ word_place keywords w

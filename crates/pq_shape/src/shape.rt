@@ -89,6 +89,17 @@ fn is_word(word: &[u8], bytes: &[u8]) -> bool
     }
 }
 
+/// The same, with the lengths first.
+#[tactic(auto, using(crate::proofs::Places::other_length))]
+fn is_keyword(word: &[u8], bytes: &[u8]) -> bool
+    ensures { result ≡ bytes_eq word.now (map uppercase_byte bytes.now) }
+{
+    if word.len() != bytes.len() {
+        return false;
+    }
+    is_word(word, bytes)
+}
+
 /// The place of the keyword among some places that hold it, if it stands anywhere.
 fn keyword_among(bytes: &[u8], from: usize, to: usize) -> Option<u8>
     requires within { to ≤ 35 }
@@ -99,7 +110,7 @@ fn keyword_among(bytes: &[u8], from: usize, to: usize) -> Option<u8>
     let table = keyword_table();
     let mut place = from;
     'places: while place < to {
-        if is_word(table.word(place).as_bytes(), bytes) {
+        if is_keyword(table.word(place).as_bytes(), bytes) {
             return Some(place as u8);
         }
         place += 1;

@@ -7,16 +7,16 @@ use Rattle.pq_shape.proofs.shape.keyword_among.Goals as goal
 pub places-init : goal.places-init
 places-init c = λ k lt at. let first = (c.requires.among k at).0 in absurd (omega arith)
 
-pub returns-then-is_word : goal.returns-then-is_word
-returns-then-is_word c =
+pub returns-then-is_keyword : goal.returns-then-is_keyword
+returns-then-is_keyword c =
     let at : slice_get keywords c.places.place ≡ Some c.as_bytes.result.now = sym (ap (λ (ws : List (List ℕ)). slice_get ws c.places.place) c.keyword_table-table.ensures) ∙ c.word.ensures ∙ ap (λ (v : List ℕ). Some v) (sym c.as_bytes.ensures.value) in
-    let is : bytes_eq c.as_bytes.result.now (map uppercase_byte c.args.bytes.now) ≡ true = sym c.is_word.ensures ∙ c.if-is_word.true in
+    let is : bytes_eq c.as_bytes.result.now (map uppercase_byte c.args.bytes.now) ≡ true = sym c.is_keyword.ensures ∙ c.if-is_keyword.true in
     keyword_here c.as_bytes.result.now (map uppercase_byte c.args.bytes.now) c.places.place at is
 
 pub places-preserved : goal.places-preserved
 places-preserved c =
     let at : slice_get keywords c.places.place ≡ Some c.as_bytes.result.now = sym (ap (λ (ws : List (List ℕ)). slice_get ws c.places.place) c.keyword_table-table.ensures) ∙ c.word.ensures ∙ ap (λ (v : List ℕ). Some v) (sym c.as_bytes.ensures.value) in
-    let isnt : bytes_eq c.as_bytes.result.now (map uppercase_byte c.args.bytes.now) ≡ false = sym c.is_word.ensures ∙ c.if-is_word.false in
+    let isnt : bytes_eq c.as_bytes.result.now (map uppercase_byte c.args.bytes.now) ≡ false = sym c.is_keyword.ensures ∙ c.if-is_keyword.false in
     keyword_beyond c.as_bytes.result.now (map uppercase_byte c.args.bytes.now) c.places.place at isnt c.places.invariant
 
 pub returns : goal.returns
