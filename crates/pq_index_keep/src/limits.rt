@@ -7,10 +7,10 @@ ghost use Rattle.pq_pending.specs.Tests.{place_among};
 ghost use Rattle.pq_index_keep.specs.Asking.{asks_room, room_test, room_tests};
 ghost use Rattle.pq_index_keep.specs.Effects.{stays};
 
-use crate::groups::group_ends;
+use crate::groups::row_group_ends;
 use crate::write::Scope;
 use pq_base::{List, NoMem, Row};
-use pq_row_keys::{null_at, same_cells, values_at};
+use pq_row_keys::{null_at, same_cells};
 use pq_schema::{Limit, Table};
 use pq_store::Test;
 use std::alloc::Global;
@@ -47,8 +47,7 @@ fn room_test(
     requires access { IsSome (group_access table.now (set_of limit.now.cols)) }
     ensures { IfOk result (λ test. test ≡ room_test number table.now row.now limit.now) }
 {
-    let values = values_at(alloc, row.items(), limit.cols.items())?;
-    let ends = group_ends(alloc, number, table, limit.cols.items(), values.items())?;
+    let ends = row_group_ends(alloc, number, table, limit.cols.items(), row.items())?;
     Ok(Test::Full(ends, limit.n))
 }
 
