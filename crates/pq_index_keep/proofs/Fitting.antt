@@ -249,17 +249,6 @@ as_many_names table None = length-map table.columns (λ (column : Column). colum
     range_length k (suc n) = ap suc (range_length (k + 1) n)
 as_many_names table (Some names) = sym (length-map names (place_of table.columns))
 
-pub range_more : (k n : ℕ) → range_with_len k n ++ (k + n) ∷ [] ≡ range_with_len k (n + 1)
-range_more k zero = ap (λ (j : ℕ). j ∷ []) (let e : k + 0 ≡ k = omega arith in e)
-range_more k (suc n) =
-    let e : k + suc n ≡ k + 1 + n = omega arith in
-    let m : n + 1 ≡ suc n = omega arith in
-    let more : suc n + 1 ≡ suc (suc n) = omega arith in
-    ap (λ (j : ℕ). k ∷ (range_with_len (k + 1) n ++ j ∷ [])) e ∙ ap (λ (l : List ℕ). k ∷ l) (range_more (k + 1) n ∙ ap (range_with_len (k + 1)) m) ∙ ap (range_with_len k) (sym more)
-
-pub range_from : (n : ℕ) → range_with_len 0 n ++ n ∷ [] ≡ range_with_len 0 (n + 1)
-range_from n = let e : n ≡ 0 + n = omega arith in ap (λ (j : ℕ). range_with_len 0 n ++ j ∷ []) e ∙ range_more 0 n
-
 -- a refusal that comes after no refusal
 pub refused_after : {X Y : Type 0} (stopped : Stopped) (a b : Option Refusal) (x : X) (y : Y) → a ≡ None → Answers (Err stopped) (or_ok b x) → Answers (Err stopped) (or_ok (or_else a b) y)
 refused_after NoMem a b x y none h = tt
@@ -288,10 +277,3 @@ delete_ok table other t key conds row made is none given made_is =
     subst (λ (tb : Table). delete_checked tb t key conds ≡ Ok (Delete t row made)) is
     (ap (λ (o : Option Refusal). or_ok o (Delete t (key_given table key) (map (cond_of_def table) conds))) none
     ∙ ap (λ (r : List Value). Ok (Delete t r (map (cond_of_def table) conds))) (sym given) ∙ ap (λ (cs : List Cond). Ok (Delete t row cs)) (sym made_is))
-
-pub insert_err_at : (table other : Table) (t : ℕ) (cols : Option (List (List ℕ))) (values : List Value) (stopped : Stopped) (names : List (List ℕ)) (places : List ℕ) → table ≡ other → insert_names_refusal table cols ≡ None → names ≡ insert_names table cols → places ≡ insert_places table cols
-    → Answers {A = List Value} (Err stopped) (or_ok (insert_values_refusal table names places values) (insert_row table places values)) → Answers {A = Write} (Err stopped) (insert_checked other t cols values)
-insert_err_at table other t cols values stopped names places is none named placed h =
-    insert_err table other t cols values stopped is none
-    (subst (λ (ps : List ℕ). Answers {A = List Value} (Err stopped) (or_ok (insert_values_refusal table (insert_names table cols) ps values) (insert_row table ps values))) placed
-    (subst (λ (ns : List (List ℕ)). Answers {A = List Value} (Err stopped) (or_ok (insert_values_refusal table ns places values) (insert_row table places values))) named h))

@@ -17,3 +17,4 @@ pub mod Shortened
 pub mod Tests
 pub mod Touching
 pub mod Updating
+pub mod Whole
