@@ -1,5 +1,6 @@
 //! From values to key codes.
 ghost use Rattle.std.specs.Prelude.{◌≡◌, ◌++◌, ◌∷◌, [], length, map, take, OnOk, OnErr, IfOk};
+ghost use Rattle.pq_base.specs.declared.value.Dir.TheVariants.{Asc};
 ghost use Rattle.pq_base.specs.declared.value.Value.TheVariants as values;
 ghost use Rattle.pq_key_code.specs.KeyCode.{above_least, payload, turned_byte, escaped_text, null_marker, marker, component, code_of};
 
@@ -122,10 +123,19 @@ fn put_payload(alloc: Global, out: &mut Bytes, dir: Dir, value: &Value) -> Resul
     }
 }
 
-/// Puts a value's component behind what is there: the marker, and the payload in its direction.
-/// After `NoMem` the bytes are as before.
+/// Puts the component of an ascending number: its nine bytes at once.
+#[tactic(auto, using(crate::proofs::Escapes::ascending))]
+fn put_number(alloc: Global, out: &mut Bytes, number: i64) -> Result<(), NoMem>
+    ensures ok { OnOk result (out.new ≡ out.old ++ component Asc (values.Int number)) }
+    ensures err { OnErr result (out.new ≡ out.old) }
+{
+    let [a, b, c, d, e, f, g, h] = above_least_of(number).to_be_bytes();
+    out.extend(alloc, &[0x10, a, b, c, d, e, f, g, h])
+}
+
+/// Puts the marker, and then the payload in its direction.
 #[tactic(auto, using(crate::proofs::Fronts::front_kept))]
-pub fn put_component(alloc: Global, out: &mut Bytes, dir: Dir, value: &Value) -> Result<(), NoMem>
+fn put_marked(alloc: Global, out: &mut Bytes, dir: Dir, value: &Value) -> Result<(), NoMem>
     ensures ok { OnOk result (out.new ≡ out.old ++ component dir value.now) }
     ensures err { OnErr result (out.new ≡ out.old) }
 {
@@ -136,6 +146,18 @@ pub fn put_component(alloc: Global, out: &mut Bytes, dir: Dir, value: &Value) ->
         out.truncate(len);
     }
     put
+}
+
+/// Puts a value's component behind what is there: the marker, and the payload in its direction.
+/// After `NoMem` the bytes are as before.
+pub fn put_component(alloc: Global, out: &mut Bytes, dir: Dir, value: &Value) -> Result<(), NoMem>
+    ensures ok { OnOk result (out.new ≡ out.old ++ component dir value.now) }
+    ensures err { OnErr result (out.new ≡ out.old) }
+{
+    match (dir, value) {
+        (Dir::Asc, Value::Int(number)) => put_number(alloc, out, *number),
+        _ => put_marked(alloc, out, dir, value),
+    }
 }
 
 // Most keys have no more bytes than this.
