@@ -1,10 +1,11 @@
 -- Values that are put one after the other, each in the direction of its place in a sequence.
-use Rattle.std.proofs.Common.{◌≡◌, ℕ, suc, ◌+◌, ◌<◌, ◌≤◌, List, [], ◌∷◌, ◌++◌, length, drop, get_or, Some, None, refl, sym, ap, ◌∙◌, append_assoc, add-one, drop-cons}
-use Rattle.std.specs.Prelude.{slice_get}
-use Rattle.std.proofs.lemmas.List.{drop_all, append-nil}
+use Rattle.std.proofs.Common.{◌≡◌, ℕ, suc, ◌+◌, ◌<◌, ◌≤◌, List, [], ◌∷◌, ◌++◌, length, drop, get_or, Some, None, refl, sym, ap, ◌∙◌, append_assoc, add-one, drop-cons, map}
+use Rattle.std.specs.Prelude.{slice_get, replicate}
+use Rattle.std.proofs.lemmas.List.{drop_all, append-nil, length-map}
 use Rattle.pq_base.specs.declared.value.Dir.{Dir}
+use Rattle.pq_base.specs.declared.value.Dir.TheVariants.{Asc}
 use Rattle.pq_base.specs.declared.value.Value.{Value}
-use Rattle.pq_key_code.specs.KeyCode.{component, code_of, entry_key}
+use Rattle.pq_key_code.specs.KeyCode.{component, code_of, entry_key, row_key}
 use Rattle.pq_schema.specs.declared.table.KeyPart.{KeyPart}
 use Rattle.pq_schema.specs.Keys.{dirs_of}
 use Rattle.pq_schema.proofs.Places.{drop_some, drop_none}
@@ -40,3 +41,8 @@ values_end sequence values i before all end so_far =
 
 pub behind_front : (t i : ℕ) (sequence : List KeyPart) (values : List Value) (front all : List ℕ) → front ≡ entry_key t i [] [] → all ≡ front ++ code_of (dirs_of sequence) values → all ≡ entry_key t i (dirs_of sequence) values
 behind_front t i sequence values front all is made = made ∙ ap (λ (bytes : List ℕ). bytes ++ code_of (dirs_of sequence) values) is
+
+pub behind_row_front : {A : Type 0} (t : ℕ) (f : A → Value) (key : List A) (front all : List ℕ) → front ≡ row_key t [] → all ≡ front ++ code_of (replicate (length key) Asc) (map f key) → all ≡ row_key t (map f key)
+behind_row_front t f key front all is made =
+    made ∙ ap (λ (bytes : List ℕ). bytes ++ code_of (replicate (length key) Asc) (map f key)) is
+    ∙ ap (λ (n : ℕ). 2 ∷ t ∷ code_of (replicate n Asc) (map f key)) (sym (length-map key f))

@@ -57,7 +57,7 @@ pub(crate) fn decoded_rows(
     ensures cause { IfErr result (IsUnread (OneShows (IsNoRowPair (row_shape types.now fillers.now))
         (map entry pairs.now))) }
 {
-    let mut rows = List::new(alloc);
+    let mut rows = List::with_room(alloc, pairs.len())?;
     for pair in pairs {
         let row = decoded_row(alloc, types, fillers, pair)?;
         rows.push(alloc, row)?;
@@ -104,7 +104,7 @@ pub(crate) fn decoded_keys(
     ensures fit { IfOk result (AllByRecursion (AllFit types.now)) }
     ensures cause { IfErr result (IsUnread (OneShows (IsNoKeyPair types.now dirs.now skipped) (map entry pairs.now))) }
 {
-    let mut found = List::new(alloc);
+    let mut found = List::with_room(alloc, pairs.len())?;
     for pair in pairs {
         let values = decoded_values(alloc, types, dirs, skipped, pair)?;
         found.push(alloc, values)?;

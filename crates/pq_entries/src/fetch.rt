@@ -17,12 +17,12 @@ ghost use Rattle.pq_content.specs.Tables.{Rows, values_of, rows_of, stored_code}
 ghost use Rattle.pq_nodes.specs.Operators.{ShowsRead};
 ghost use Rattle.pq_entries.specs.Entries.{IsSequence, IsNamedRow, AreNamedRows, IsEntryThere, IsUnread, IsNoNamedRow, OneNamesNoRow, named_at};
 
-use crate::keys::named_key;
+use crate::keys::{named_at, named_key};
 use crate::ranges::table_of;
 use pq_base::{Bytes, ColType, List, NoMem, Row};
 use pq_calls::{Calls, answered_row, types_of};
 use pq_key_code::row_key;
-use pq_schema::{Access, Catalog, Table};
+use pq_schema::{Access, Catalog, Table, sequence};
 use pq_store::{Broke, Damage, Store};
 use std::alloc::Global;
 use std::sync::ledger::Ledger;
@@ -81,10 +81,11 @@ fn named_keys(
     requires access { IsAccess table.now (Access.Secondary index) }
     ensures { IfOk result (λ asked. asked ≡ map (named_at number table.now index) found.now) }
 {
-    let mut asked = List::new(alloc);
+    let parts = sequence(alloc, table, Access::Secondary(index))?;
+    let mut asked = List::with_room(alloc, found.len())?;
     for values in found {
-        let key = named_key(alloc, table, Access::Secondary(index), values)?;
-        let at = row_key(alloc, number, &key)?;
+        let key = table.key.items();
+        let at = named_at(alloc, number, parts.items(), values.items(), key)?;
         asked.push(alloc, Some(at))?;
     }
     Ok(asked)
@@ -130,7 +131,7 @@ fn rows_at(
     ensures cause { IfErr result (IsUnread (OneNamesNoRow (shape_of table.now) asked.now codes.now)) }
 {
     let types = types_of(alloc, table)?;
-    let mut rows = List::new(alloc);
+    let mut rows = List::with_room(alloc, asked.len())?;
     for place in 0..asked.len() {
         let row = row_at(alloc, table, types.items(), &asked[place], &codes[place])?;
         rows.push(alloc, row)?;

@@ -1,14 +1,15 @@
 //! Keys of a table's sequences, and what they are made of.
-ghost use Rattle.std.specs.Prelude.{◌≡◌, ◌≤◌, ◌++◌, length, IfOk, OnOk};
-ghost use Rattle.pq_key_code.specs.KeyCode.{code_of};
+ghost use Rattle.std.specs.Prelude.{◌≡◌, ◌≤◌, ◌++◌, length, map, replicate, IfOk, OnOk};
+ghost use Rattle.pq_base.specs.declared.value.Dir.TheVariants.{Asc};
+ghost use Rattle.pq_key_code.specs.KeyCode.{component, code_of, row_key};
 ghost use Rattle.pq_schema.specs.Keys.{dirs_of, given_value};
 ghost use Rattle.pq_schema.specs.Sequences.{IsAccess, columns_of, then_key, sequence_of};
 ghost use Rattle.pq_schema.specs.Sound.{IsTable, AreColumns};
 ghost use Rattle.pq_schema.specs.Tables.{types_at};
 ghost use Rattle.pq_calls.specs.Keys.{sequence_key, named_key};
 
-use pq_base::{Bytes, ColSet, ColType, List, NoMem, Row, Value, no_value};
-use pq_key_code::{entry_front, put_component, row_key};
+use pq_base::{Bytes, ColSet, ColType, Dir, List, NoMem, Row, Value, no_value};
+use pq_key_code::{entry_front, put_component, row_front, row_key};
 use pq_schema::{Access, Column, KeyPart, Table, columns_in, part_at, sequence, type_at};
 use std::alloc::Global;
 
@@ -20,7 +21,7 @@ pub fn types_at(
 ) -> Result<List<ColType>, NoMem>
     ensures { IfOk result (λ types. types ≡ types_at columns.now (columns_of parts.now)) }
 {
-    let mut types = List::new(alloc);
+    let mut types = List::with_room(alloc, parts.len())?;
     for part in parts {
         types.push(alloc, type_at(columns, part.col))?;
     }
@@ -126,4 +127,61 @@ pub(crate) fn named_key(
         key.push(alloc, given(alloc, parts.items(), values.items(), *col)?)?;
     }
     Ok(key)
+}
+
+/// Puts the value that a column is given, where the columns of the parts are given these values.
+fn put_given(
+    alloc: Global,
+    out: &mut Bytes,
+    parts: &[KeyPart],
+    values: &[Value],
+    col: u8,
+) -> Result<(), NoMem>
+    ensures { OnOk result (out.new ≡ out.old ++ component Asc (given_value (columns_of parts.now) values.now col)) }
+{
+    match (parts.split_first(), values.split_first()) {
+        (Some((part, parts)), Some((value, values))) => {
+            if part.col == col {
+                put_component(alloc, out, Dir::Asc, value)
+            } else {
+                put_given(alloc, out, parts, values, col)
+            }
+        }
+        _ => put_component(alloc, out, Dir::Asc, &no_value()),
+    }
+}
+
+/// Puts the ascending code of the values that columns are given.
+fn put_key(
+    alloc: Global,
+    out: &mut Bytes,
+    parts: &[KeyPart],
+    values: &[Value],
+    key: &[u8],
+) -> Result<(), NoMem>
+    ensures { OnOk result (out.new ≡ out.old ++ code_of (replicate (length key.now) Asc)
+        (map (given_value (columns_of parts.now) values.now) key.now)) }
+{
+    let Some((col, key)) = key.split_first() else {
+        return Ok(());
+    };
+    put_given(alloc, out, parts, values, *col)?;
+    put_key(alloc, out, parts, values, key)
+}
+
+/// The key in the store of the row that an entry names, by the parts of the index's sequence, the values of the
+/// entry and the columns of the key.
+#[tactic(auto, using(crate::proofs::Placed::behind_row_front))]
+pub(crate) fn named_at(
+    alloc: Global,
+    number: u8,
+    parts: &[KeyPart],
+    values: &[Value],
+    key: &[u8],
+) -> Result<Bytes, NoMem>
+    ensures { IfOk result (λ at. at ≡ row_key number (map (given_value (columns_of parts.now) values.now) key.now)) }
+{
+    let mut at = row_front(alloc, number)?;
+    put_key(alloc, &mut at, parts, values, key)?;
+    Ok(at)
 }

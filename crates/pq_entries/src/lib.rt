@@ -12,5 +12,5 @@ mod sequences;
 
 pub use fetch::{named_row, named_rows};
 pub use keys::{sequence_key, types_at};
-pub use ranges::{range_rows, range_values, rows_in, values_in};
+pub use ranges::{range_rows, range_values, rows_in, values_in, values_read};
 pub use sequences::sequence_rows;

@@ -124,6 +124,36 @@ fn front_len(access: Access) -> usize
     }
 }
 
+/// The values of the keys of pairs that a range of a sequence's keys has, by their types and directions.
+pub fn values_read(
+    alloc: Global,
+    catalog: &Catalog,
+    number: u8,
+    access: Access,
+    types: &[ColType],
+    dirs: &[Dir],
+    pairs: &[Pair],
+) -> Result<List<Row>, Broke>
+    requires sequence { IsSequence catalog.now.tables number access }
+    requires types { types.now ≡ sequence_types (table_at catalog.now.tables number) access }
+    requires dirs { dirs.now ≡ dirs_of (sequence_of (table_at catalog.now.tables number) access) }
+    requires front { All (λ pair. length (key_front 0 access) ≤ length pair.key) pairs.now }
+    ensures cause { IfErr result (λ why. OfEachRange number access pairs.now
+        (λ told low high limit. IsUnread (where_told (ShowsRead catalog.now.tables) told) why)) }
+    ensures tells { IfErr result (IsUnread (OneShows TellsPair (map entry pairs.now))) }
+    ensures long { IfOk result (λ found. length found ≡ length pairs.now) }
+    ensures fit { IfOk result (AllByRecursion (AllFit (sequence_types (table_at catalog.now.tables number) access))) }
+    ensures there { IfOk result (λ found. OfEachRange number access pairs.now (λ told low high limit.
+        AllByRecursion (IsKeyThere number (table_at catalog.now.tables number) access told) found)) }
+    // Over any content that is told, no pair is passed over.
+    ensures keys { IfOk result (λ found. OfEachRange number access pairs.now (λ told low high limit.
+        IfSome told (AreKeysWithin number (table_at catalog.now.tables number) access low high limit found))) }
+    ensures answer { IfOk result (λ found. OfEachRange number access pairs.now (λ told low high limit.
+        IfSome told (AreFirstValues number (table_at catalog.now.tables number) access low high limit found))) }
+{
+    decoded_keys(alloc, types, dirs, front_len(access), pairs)
+}
+
 /// The values of the keys of pairs that a range of a sequence's keys has.
 pub fn values_in(
     alloc: Global,
@@ -148,12 +178,13 @@ pub fn values_in(
         IfSome told (AreFirstValues number (table_at catalog.now.tables number) access low high limit found))) }
 {
     let shape = key_shape(alloc, table_of(catalog, number, access), access)?;
-    let skipped = front_len(access);
-    decoded_keys(
+    values_read(
         alloc,
+        catalog,
+        number,
+        access,
         shape.types.items(),
         shape.dirs.items(),
-        skipped,
         pairs,
     )
 }
