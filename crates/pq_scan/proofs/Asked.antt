@@ -25,9 +25,11 @@ use Rattle.pq_entries.proofs.Zipped.{zipped_at}
 use Rattle.pq_nodes.specs.Combos.{FitsTables}
 use Rattle.pq_nodes.specs.Operators.{IsCursor, ShowsRead}
 use Rattle.pq_serving.specs.Scanning.{passes}
+use Rattle.pq_scan.specs.declared.forms.PlaceForm.{PlaceForm}
 use Rattle.pq_scan.specs.declared.prepared.Scan.{Scan}
 use Rattle.pq_scan.specs.Asked.{input_at, range_of, range_asked, constants_asked, AddsHeld}
 use Rattle.pq_scan.specs.Candidates.{Candidate, scanned_table, AreHeldWithin, AreFirst, IsHeld, IsCandidate, AddsCandidates, candidate_at}
+use Rattle.pq_scan.specs.Forms.{form_asked}
 use Rattle.pq_scan.specs.Inputs.{low_code, high_code}
 use Rattle.pq_scan.specs.Prepared.{asked_over, IsScannable}
 use Rattle.pq_scan.specs.Scanned.{AreReadOf}
@@ -206,9 +208,9 @@ module _ (scan : Scan) (after : Option (List Value)) (inputs : List (List (List 
   pub combo_here : combo ≡ get_or inputs place combo
   combo_here = at_itself inputs place [] within
 
-  pub constants_here : (constants listed : List (List (Option Value))) (one own : List (Option Value)) → constants ≡ map (constants_asked scan) inputs → listed ≡ constants → one ≡ get_or listed place one → own ≡ one → own ≡ constants_asked scan combo
-  constants_here constants listed one own is given at same =
-      same ∙ map_at (constants_asked scan) inputs place combo one within combo_here (subst (λ (l : List (List (Option Value))). one ≡ get_or l place one) (given ∙ is) at)
+  pub form_here : (forms listed : List PlaceForm) (one : PlaceForm) → forms ≡ map (form_asked scan) inputs → listed ≡ forms → one ≡ get_or listed place one → one ≡ form_asked scan combo
+  form_here forms listed one is given at =
+      map_at (form_asked scan) inputs place combo one within combo_here (subst (λ (l : List PlaceForm). one ≡ get_or l place one) (given ∙ is) at)
 
   module _ (asked ranges : List (Option Ends)) (parts listed : List (List Pair)) (one pairs : List Pair) (given : asked ≡ ranges) (is : ranges ≡ map (range_asked scan after) inputs) (told : listed ≡ parts) (at : one ≡ get_or listed place one) (same : pairs ≡ one) where
     one_here : one ≡ get_or parts place one

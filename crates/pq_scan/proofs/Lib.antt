@@ -4,6 +4,7 @@ pub mod Columns
 pub mod Ends
 pub mod Fetching
 pub mod Filtered
+pub mod Formed
 pub mod Gathered
 pub mod Merged
 pub mod Merging

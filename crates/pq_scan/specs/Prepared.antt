@@ -13,6 +13,7 @@ use Rattle.pq_schema.specs.Relations.{tied_set, position_columns, relation_at, t
 use Rattle.pq_schema.specs.Rows.{Rows}
 use Rattle.pq_schema.specs.Sequences.{columns_of, sequence_of}
 use Rattle.pq_schema.specs.Candidates.{can_stop_at}
+use Rattle.pq_schema.specs.Tables.{types_at}
 use Rattle.pq_plan.specs.Answer.{Question}
 use Rattle.pq_nodes.specs.Inverse.{IsRelationOf}
 use Rattle.pq_nodes.specs.Operators.{IsAsked}
@@ -52,6 +53,7 @@ pub record IsPrepared (scan : Scan) : Type 0 where
   pub fixed_is : scan.fixed ≡ tied_set scan.query.now scan.rel
   pub sequence_is : scan.sequence ≡ sequence_of (table_of scan.catalog.now.tables scan.query.now scan.rel) scan.access
   pub front_is : scan.front ≡ take (count_ones (tied_set scan.query.now scan.rel)) (columns_of scan.sequence)
+  pub types_is : scan.types ≡ types_at (table_of scan.catalog.now.tables scan.query.now scan.rel).columns (columns_of scan.sequence)
   pub dirs_is : scan.dirs ≡ dirs_of scan.sequence
   pub items_is : scan.items ≡ position_columns scan.catalog.now.tables scan.query.now
   pub position_dirs_is : scan.position_dirs ≡ item_directions scan.items

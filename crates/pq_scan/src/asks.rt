@@ -1,41 +1,47 @@
 //! What a scan asks for its inputs, all at once.
 ghost use Rattle.std.specs.Prelude.{◌≡◌, map, option_copied, IfOk};
-ghost use Rattle.pq_scan.specs.Asked.{range_asked, constants_asked};
+ghost use Rattle.pq_scan.specs.Asked.{range_asked};
+ghost use Rattle.pq_scan.specs.Forms.{form_asked};
 ghost use Rattle.pq_scan.specs.Prepared.{IsPrepared};
 
+use crate::forms::{PlaceForm, form_of};
 use crate::keys::{ends_of, input_of};
 use crate::passing::passes;
 use crate::prepared::Scan;
-use pq_base::{List, NoMem, Row, Value};
+use pq_base::{List, NoMem, Row};
 use pq_plan::Combo;
 use pq_store::Ends;
 use std::alloc::Global;
 
-/// The range that is asked for an input, and the constants of its positions; none of either where the input
-/// doesn't pass.
+/// The range that is asked for an input, and the form of its positions; where the input doesn't pass, none and
+/// the form without a part.
 #[derive(Drop)]
 struct Ask {
     range: Option<Ends>,
-    constants: List<Option<Value>>,
+    form: PlaceForm,
 }
 
 /// What is asked for an input, strictly after a cursor.
 fn ask_of(alloc: Global, scan: &Scan<'_>, combo: &Combo, after: Option<&Row>) -> Result<Ask, NoMem>
     requires { IsPrepared scan.now }
     ensures range { IfOk result (λ ask. ask.range ≡ range_asked scan.now (option_copied after.entry) combo.now) }
-    ensures constants { IfOk result (λ ask. ask.constants ≡ constants_asked scan.now combo.now) }
+    ensures form { IfOk result (λ ask. ask.form ≡ form_asked scan.now combo.now) }
 {
     if !passes(scan, combo) {
         return Ok(Ask {
             range: None,
-            constants: List::new(alloc),
+            form: PlaceForm {
+                parts: List::new(alloc),
+                behind: List::new(alloc),
+            },
         });
     }
     let input = input_of(alloc, scan, combo)?;
     let ends = ends_of(alloc, scan, combo, &input, after)?;
+    let form = form_of(alloc, input.constants.items(), scan.position_dirs.items())?;
     Ok(Ask {
         range: Some(ends),
-        constants: input.constants,
+        form,
     })
 }
 
@@ -43,7 +49,7 @@ fn ask_of(alloc: Global, scan: &Scan<'_>, combo: &Combo, after: Option<&Row>) ->
 #[derive(Drop)]
 pub(crate) struct Asks {
     pub ranges: List<Option<Ends>>,
-    pub constants: List<List<Option<Value>>>,
+    pub forms: List<PlaceForm>,
 }
 
 /// What is asked for inputs, strictly after a cursor.
@@ -56,14 +62,14 @@ pub(crate) fn asks_of(
     requires { IsPrepared scan.now }
     ensures ranges { IfOk result (λ asks. asks.ranges ≡ map
         (range_asked scan.now (option_copied after.entry)) inputs.now) }
-    ensures constants { IfOk result (λ asks. asks.constants ≡ map (constants_asked scan.now) inputs.now) }
+    ensures forms { IfOk result (λ asks. asks.forms ≡ map (form_asked scan.now) inputs.now) }
 {
     let mut ranges = List::with_room(alloc, inputs.len())?;
-    let mut constants = List::with_room(alloc, inputs.len())?;
+    let mut forms = List::with_room(alloc, inputs.len())?;
     for combo in inputs {
         let ask = ask_of(alloc, scan, combo, after)?;
         ranges.push(alloc, ask.range)?;
-        constants.push(alloc, ask.constants)?;
+        forms.push(alloc, ask.form)?;
     }
-    Ok(Asks { ranges, constants })
+    Ok(Asks { ranges, forms })
 }

@@ -1,13 +1,13 @@
 //! What a scan found, with the codes of positions.
-ghost use Rattle.std.specs.Prelude.{◌≡◌, ◌++◌, map, IfOk, OnOk};
+ghost use Rattle.std.specs.Prelude.{◌≡◌, ◌++◌, map, drop, count_ones, IfOk, OnOk};
 ghost use Rattle.pq_schema.specs.Rows.{cells};
 ghost use Rattle.pq_schema.specs.Sequences.{columns_of};
-ghost use Rattle.pq_scan.specs.Candidates.{place_code, candidate_at};
+ghost use Rattle.pq_scan.specs.Forms.{filled_code, formed_code, formed_at};
 
-use crate::keys::place_of;
+use crate::forms::{PlaceForm, blank_code, items_from, put_filled, put_filled_cells};
 use crate::merge::Placed;
 use crate::prepared::Scan;
-use pq_base::{Bytes, List, NoMem, Row, Value, value_of};
+use pq_base::{Bytes, List, NoMem, Row, Value};
 use pq_schema::Access;
 use std::alloc::Global;
 
@@ -23,32 +23,54 @@ pub(crate) struct Found {
 /// What a scan found, with the code of its position.
 pub(crate) type Candidate = Placed<Found>;
 
-/// The values of a row at the columns of the sequence.
-fn cells_of(alloc: Global, scan: &Scan<'_>, row: &Row) -> Result<Row, NoMem>
-    ensures { IfOk result (λ made. made ≡ cells (columns_of scan.now.sequence) row.now) }
+/// The code of the position of a row.
+#[tactic(auto, using(crate::proofs::Formed::cells_from))]
+fn row_code(alloc: Global, scan: &Scan<'_>, form: &PlaceForm, row: &[Value]) -> Result<Bytes, NoMem>
+    ensures { IfOk result (λ code. code ≡ filled_code form.now.parts form.now.behind
+        (drop (count_ones scan.now.fixed) (cells (columns_of scan.now.sequence) row.now))) }
 {
-    let mut made = Row::new(alloc);
-    for part in scan.sequence.items() {
-        made.push(alloc, value_of(alloc, row.items(), part.col)?)?;
-    }
-    Ok(made)
+    let own = items_from(scan.sequence.items(), scan.fixed.count() as usize);
+    let mut code = blank_code(alloc)?;
+    put_filled_cells(
+        alloc,
+        &mut code,
+        form.parts.items(),
+        form.behind.items(),
+        own,
+        row,
+    )?;
+    Ok(code)
 }
 
-/// The code of the position of what was found for an input with these constants.
-fn place_code(
+/// The code of the position of values of the sequence.
+fn values_code(
     alloc: Global,
     scan: &Scan<'_>,
-    constants: &[Option<Value>],
-    held: &Row,
+    form: &PlaceForm,
+    values: &[Value],
 ) -> Result<Bytes, NoMem>
-    ensures { IfOk result (λ code. code ≡ place_code scan.now constants.now held.now) }
+    ensures { IfOk result (λ code. code ≡ filled_code form.now.parts form.now.behind
+        (drop (count_ones scan.now.fixed) values.now)) }
+{
+    let own = items_from(values, scan.fixed.count() as usize);
+    let mut code = blank_code(alloc)?;
+    put_filled(
+        alloc,
+        &mut code,
+        form.parts.items(),
+        form.behind.items(),
+        own,
+    )?;
+    Ok(code)
+}
+
+/// The code of the position of what was found for an input whose positions have this form.
+fn place_code(alloc: Global, scan: &Scan<'_>, form: &PlaceForm, held: &Row) -> Result<Bytes, NoMem>
+    ensures { IfOk result (λ code. code ≡ formed_code scan.now form.now held.now) }
 {
     match scan.access {
-        Access::Primary => {
-            let cells = cells_of(alloc, scan, held)?;
-            place_of(alloc, scan, constants, cells.items())
-        }
-        Access::Secondary(_) => place_of(alloc, scan, constants, held.items()),
+        Access::Primary => row_code(alloc, scan, form, held.items()),
+        Access::Secondary(_) => values_code(alloc, scan, form, held.items()),
     }
 }
 
@@ -56,15 +78,15 @@ fn place_code(
 pub(crate) fn add_candidates(
     alloc: Global,
     scan: &Scan<'_>,
-    constants: &[Option<Value>],
+    form: &PlaceForm,
     input: usize,
     held: List<Row>,
     found: &mut List<Candidate>,
 ) -> Result<(), NoMem>
-    ensures { OnOk result (found.new ≡ found.old ++ map (candidate_at scan.now constants.now input) held) }
+    ensures { OnOk result (found.new ≡ found.old ++ map (formed_at scan.now form.now input) held) }
 {
     for row in held.into_vec() {
-        let place = place_code(alloc, scan, constants, &row)?;
+        let place = place_code(alloc, scan, form, &row)?;
         found.push(
             alloc,
             Placed {

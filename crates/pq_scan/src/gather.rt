@@ -60,7 +60,7 @@ pub(crate) fn gather<S: Store<L>, L: Ledger>(
         add_found(
             alloc,
             scan,
-            asks.constants.items()[place].items(),
+            &asks.forms.items()[place],
             place,
             parts.items()[place].items(),
             &mut found,

@@ -1,5 +1,5 @@
 //! The ends of an input's range as keys.
-ghost use Rattle.std.specs.Prelude.{◌≡◌, ◌<◌, ◌==◌, ◌++◌, ◌∷◌, [], cond, map, drop, count_ones, slice_get, option_copied, IfOk};
+ghost use Rattle.std.specs.Prelude.{◌≡◌, ◌<◌, ◌==◌, ◌++◌, ◌∷◌, [], cond, map, slice_get, option_copied, IfOk, OnOk};
 ghost use Rattle.std.specs.List.{AllByRecursion};
 ghost use Rattle.std.specs.Option.{option_to_list};
 ghost use Rattle.pq_base.specs.declared.value.Value.{Value};
@@ -7,18 +7,19 @@ ghost use Rattle.pq_key_code.specs.KeyCode.{code_of};
 ghost use Rattle.pq_schema.specs.Relations.{belongs_to};
 ghost use Rattle.pq_serving.specs.Keys.{bound_key, higher, lesser_key};
 ghost use Rattle.pq_serving.specs.Scanning.{first_direction, rest};
-ghost use Rattle.pq_serving.specs.Starts.{under, lower, upper, filled_values};
+ghost use Rattle.pq_serving.specs.Starts.{under, lower, upper};
 ghost use Rattle.pq_scan.specs.Ends.{is_past, edge_value, edge_bounds, bounds_by, pred_bounds, own_bounds, farther, farthest, with_key, bound_of, direction_of, started_key, end_code};
 ghost use Rattle.pq_scan.specs.Inputs.{IsInputAt, low_code, high_code};
 ghost use Rattle.pq_entries.specs.Entries.{key_front};
 ghost use Rattle.pq_scan.specs.Prepared.{asked_over, IsPrepared};
 
+use crate::forms::{blank_code, items_from};
 use crate::passing::is_tied;
-use crate::places::{constants, position};
+use crate::places::constants;
 use crate::prepared::Scan;
 use crate::starts::{Start, start_at};
 use pq_base::{Bytes, Dir, List, NoMem, Op, Row, Value};
-use pq_key_code::{encode_key, past};
+use pq_key_code::{entry_front, past, put_component, row_front};
 use pq_operands::{side, tied_cells};
 use pq_plan::Combo;
 use pq_predicates::belongs_to;
@@ -78,33 +79,64 @@ fn edge_of(end: End, dir: Dir, op: Op) -> Option<Edge>
     }
 }
 
-/// The code of values, as far as there are directions.
-#[tactic(auto, using(crate::proofs::Codes::code_of_front))]
-fn front_code(alloc: Global, values: Row, dirs: &[Dir]) -> Result<Bytes, NoMem>
-    ensures { IfOk result (λ code. code ≡ code_of dirs.now values) }
+/// Whether an edge is past its values.
+fn is_past(edge: Edge) -> bool
+    ensures { result ≡ is_past edge }
 {
-    let mut values = values;
-    values.truncate(dirs.len());
-    encode_key(alloc, &values, &dirs[..values.items().len()])
+    match edge {
+        Edge::At | Edge::AtNull => false,
+        Edge::Past | Edge::PastNull => true,
+    }
 }
 
-/// The code of values, as far as there are directions, and 20 behind it where it is past them.
-#[tactic(auto, using(crate::proofs::Codes::nil_behind))]
-fn prefix_key(alloc: Global, values: Row, dirs: &[Dir], edge: Edge) -> Result<Bytes, NoMem>
-    ensures { IfOk result (λ key. key ≡ code_of dirs.now values ++ cond (is_past edge) (32 ∷ []) []) }
+/// Puts the code of values, as far as there are directions.
+fn put_front(alloc: Global, out: &mut Bytes, values: &[Value], dirs: &[Dir]) -> Result<(), NoMem>
+    ensures { OnOk result (out.new ≡ out.old ++ code_of dirs.now values.now) }
 {
-    let code = front_code(alloc, values, dirs)?;
-    match edge {
-        Edge::At | Edge::AtNull => Ok(code),
-        Edge::Past | Edge::PastNull => past(alloc, code),
+    let Some((dir, dirs)) = dirs.split_first() else {
+        return Ok(());
+    };
+    let Some((value, values)) = values.split_first() else {
+        return Ok(());
+    };
+    put_component(alloc, out, *dir, value)?;
+    put_front(alloc, out, values, dirs)
+}
+
+/// Puts the code of a value, where there is a direction.
+#[tactic(auto, using(crate::proofs::Codes::one_value))]
+fn put_one(alloc: Global, out: &mut Bytes, value: &Value, dirs: &[Dir]) -> Result<(), NoMem>
+    ensures { OnOk result (out.new ≡ out.old ++ code_of dirs.now (value.now ∷ [])) }
+{
+    match dirs.split_first() {
+        Some((dir, _)) => put_component(alloc, out, *dir, value),
+        None => Ok(()),
     }
+}
+
+/// A code, and 20 behind it where it is past its values.
+#[tactic(auto, using(crate::proofs::Codes::nil_behind))]
+fn ended(alloc: Global, code: Bytes, is_past: bool) -> Result<Bytes, NoMem>
+    ensures { IfOk result (λ key. key ≡ code ++ cond is_past (32 ∷ []) []) }
+{
+    if is_past { past(alloc, code) } else { Ok(code) }
+}
+
+/// The code of the tied values.
+fn ties_code(alloc: Global, dirs: &[Dir], ties: &Row) -> Result<Bytes, NoMem>
+    ensures { IfOk result (λ code. code ≡ code_of dirs.now ties.now) }
+{
+    let mut code = blank_code(alloc)?;
+    put_front(alloc, &mut code, ties.items(), dirs)?;
+    Ok(code)
 }
 
 /// The key of the tied values alone.
 fn tied_key(alloc: Global, dirs: &[Dir], ties: &Row, edge: Edge) -> Result<Bytes, NoMem>
     ensures { IfOk result (λ key. key ≡ bound_key dirs.now (record { past = is_past edge; values = ties.now })) }
 {
-    prefix_key(alloc, ties.copy(alloc)?, dirs, edge)
+    let code = ties_code(alloc, dirs, ties)?;
+    ended(alloc, code, is_past(edge))
 }
 
 /// The key of an edge of an operand behind the tied values.
@@ -125,6 +157,7 @@ fn edge_key(
 }
 
 /// The key of one value behind the tied ones.
+#[tactic(auto, using(crate::proofs::Codes::code_behind))]
 fn value_key(
     alloc: Global,
     dirs: &[Dir],
@@ -135,32 +168,25 @@ fn value_key(
     ensures { IfOk result (λ key. key ≡ bound_key dirs.now (under ties.now
         (record { past = is_past edge; values = value.now ∷ [] }))) }
 {
-    let mut values = ties.copy(alloc)?;
-    values.push(alloc, value.copy(alloc)?)?;
-    prefix_key(alloc, values, dirs, edge)
-}
-
-/// The values of both rows.
-fn joined(alloc: Global, first: &Row, second: &Row) -> Result<Row, NoMem>
-    ensures { IfOk result (λ both. both ≡ first.now ++ second.now) }
-{
-    let mut both = first.copy(alloc)?;
-    for value in second.items() {
-        both.push(alloc, value.copy(alloc)?)?;
-    }
-    Ok(both)
+    let mut code = ties_code(alloc, dirs, ties)?;
+    put_one(
+        alloc,
+        &mut code,
+        value,
+        items_from(dirs, ties.items().len()),
+    )?;
+    ended(alloc, code, is_past(edge))
 }
 
 /// The key of a start behind the tied values.
+#[tactic(auto, using(crate::proofs::Codes::code_behind))]
 fn start_key(alloc: Global, dirs: &[Dir], ties: &Row, start: &Start) -> Result<Bytes, NoMem>
     ensures { IfOk result (λ key. key ≡ bound_key dirs.now (under ties.now (bound_of start.now))) }
 {
-    let values = joined(alloc, ties, &start.values)?;
-    if start.past {
-        prefix_key(alloc, values, dirs, Edge::Past)
-    } else {
-        prefix_key(alloc, values, dirs, Edge::At)
-    }
+    let mut code = ties_code(alloc, dirs, ties)?;
+    let rest = items_from(dirs, ties.items().len());
+    put_front(alloc, &mut code, start.values.items(), rest)?;
+    ended(alloc, code, start.past)
 }
 
 fn higher(a: Bytes, b: Bytes) -> Bytes
@@ -323,8 +349,8 @@ fn with_front(alloc: Global, scan: &Scan<'_>, code: &Bytes) -> Result<Bytes, NoM
     ensures { IfOk result (λ key. key ≡ key_front scan.now.number scan.now.access ++ code.now) }
 {
     let mut key = match scan.access {
-        Access::Primary => Bytes::of_bytes(alloc, &[0x02, scan.number])?,
-        Access::Secondary(index) => Bytes::of_bytes(alloc, &[0x03, scan.number, index])?,
+        Access::Primary => row_front(alloc, scan.number)?,
+        Access::Secondary(index) => entry_front(alloc, scan.number, index)?,
     };
     key.extend(alloc, code.items())?;
     Ok(key)
@@ -369,19 +395,4 @@ pub(crate) fn ends_of(
     let high = end_code(alloc, scan, combo, ties, End::High, Edge::Past)?;
     let high = with_front(alloc, scan, &high)?;
     Ok(Ends { low, high })
-}
-
-/// The code of the position of a row of an input, from the values of the sequence.
-pub(crate) fn place_of(
-    alloc: Global,
-    scan: &Scan<'_>,
-    constants: &[Option<Value>],
-    values: &[Value],
-) -> Result<Bytes, NoMem>
-    ensures { IfOk result (λ key. key ≡ code_of scan.now.position_dirs (filled_values constants.now (drop
-        (count_ones scan.now.fixed) values.now))) }
-{
-    let tied = scan.fixed.count() as usize;
-    let position = position(alloc, constants, tied, values)?;
-    front_code(alloc, position, scan.position_dirs.items())
 }

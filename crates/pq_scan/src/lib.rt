@@ -10,6 +10,7 @@
 mod asks;
 mod candidates;
 mod fetch;
+mod forms;
 mod gather;
 mod keys;
 mod merge;

@@ -1,12 +1,11 @@
-//! The positions of an input's rows: constants, and the values behind the tied ones between them.
-ghost use Rattle.std.specs.Prelude.{◌≡◌, [], ◌<◌, ◌++◌, map, drop, IfOk};
+//! What is the same at the positions of an input's rows.
+ghost use Rattle.std.specs.Prelude.{◌≡◌, [], ◌<◌, map, IfOk};
 ghost use Rattle.pq_plan.specs.Answer.{cell};
-ghost use Rattle.pq_serving.specs.Starts.{filled_values};
 ghost use Rattle.pq_serving.specs.Scanning.{constant_value, constant};
 ghost use Rattle.pq_scan.specs.Prepared.{asked_over, IsPrepared};
 
 use crate::prepared::Scan;
-use pq_base::{List, NoMem, Row, Value, copied_value};
+use pq_base::{List, NoMem, Value, copied_value};
 use pq_operands::{cell, tied_value};
 use pq_plan::Combo;
 use pq_schema::OrderItem;
@@ -58,60 +57,10 @@ pub(crate) fn constants(
     ensures { IfOk result (λ made. made ≡ map (constant
         (asked_over scan.now []) scan.now.rel combo.now) scan.now.items) }
 {
-    let mut constants = List::new(alloc);
-    for item in scan.items.items() {
+    let items = scan.items.items();
+    let mut constants = List::with_room(alloc, items.len())?;
+    for item in items {
         constants.push(alloc, constant(alloc, scan, combo, item)?)?;
     }
     Ok(constants)
-}
-
-/// A list with constants at some places, and the others, in order, from another list, behind a row.
-fn filled_behind(
-    alloc: Global,
-    constants: &[Option<Value>],
-    own: &[Value],
-    mut row: Row,
-) -> Result<Row, NoMem>
-    ensures { IfOk result (λ whole. whole ≡ row ++ filled_values constants.now own.now) }
-{
-    let Some((constant, constants)) = constants.split_first() else {
-        return Ok(row);
-    };
-    match constant {
-        Some(value) => {
-            row.push(alloc, value.copy(alloc)?)?;
-            filled_behind(alloc, constants, own, row)
-        }
-        None => {
-            let Some((value, own)) = own.split_first() else {
-                return Ok(row);
-            };
-            row.push(alloc, value.copy(alloc)?)?;
-            filled_behind(alloc, constants, own, row)
-        }
-    }
-}
-
-/// The values from a place on.
-fn values_from(values: &[Value], place: usize) -> &[Value]
-    ensures { result.now ≡ drop place values.now }
-{
-    if place < values.len() {
-        &values[place..]
-    } else {
-        &[]
-    }
-}
-
-/// The position of a row of an input, from the values of the sequence.
-pub(crate) fn position(
-    alloc: Global,
-    constants: &[Option<Value>],
-    tied: usize,
-    values: &[Value],
-) -> Result<Row, NoMem>
-    ensures { IfOk result (λ position. position ≡ filled_values constants.now (drop tied values.now)) }
-{
-    let row = Row::with_room(alloc, constants.len())?;
-    filled_behind(alloc, constants, values_from(values, tied), row)
 }

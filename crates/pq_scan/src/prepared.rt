@@ -5,7 +5,8 @@ ghost use Rattle.pq_schema.specs.Sequences.{columns_of, IsAccess};
 ghost use Rattle.pq_schema.specs.Sound.{IsQuery};
 ghost use Rattle.pq_scan.specs.Prepared.{IsPrepared, subject_of, item_directions};
 
-use pq_base::{ColSet, Dir, List, NoMem, Row};
+use pq_base::{ColSet, ColType, Dir, List, NoMem, Row};
+use pq_entries::types_at;
 use pq_predicates::{fixed, position_columns, table_number, table_of};
 use pq_schema::{Access, Catalog, KeyPart, OrderItem, Query, dirs_of, sequence};
 use std::alloc::Global;
@@ -25,8 +26,9 @@ pub(crate) struct Scan<'a> {
     pub fixed: ColSet,
     /// The tied columns, in the order in which the sequence begins with them.
     pub front: List<u8>,
-    /// The parts of the sequence, and their directions.
+    /// The parts of the sequence, and their types and directions.
     pub sequence: List<KeyPart>,
+    pub types: List<ColType>,
     pub dirs: List<Dir>,
     /// The position columns, and their directions.
     pub items: List<OrderItem>,
@@ -37,7 +39,7 @@ pub(crate) struct Scan<'a> {
 fn item_dirs(alloc: Global, items: &[OrderItem]) -> Result<List<Dir>, NoMem>
     ensures { IfOk result (λ dirs. dirs ≡ item_directions items.now) }
 {
-    let mut dirs = List::new(alloc);
+    let mut dirs = List::with_room(alloc, items.len())?;
     for item in items {
         dirs.push(alloc, item.dir)?;
     }
@@ -48,7 +50,7 @@ fn item_dirs(alloc: Global, items: &[OrderItem]) -> Result<List<Dir>, NoMem>
 fn columns_in(alloc: Global, parts: &[KeyPart]) -> Result<List<u8>, NoMem>
     ensures { IfOk result (λ cols. cols ≡ columns_of parts.now) }
 {
-    let mut cols = List::new(alloc);
+    let mut cols = List::with_room(alloc, parts.len())?;
     for part in parts {
         cols.push(alloc, part.col)?;
     }
@@ -84,6 +86,7 @@ impl<'a> Scan<'a> {
         let sequence = sequence(alloc, table, access)?;
         let mut front = columns_in(alloc, sequence.items())?;
         front.truncate(fixed.count() as usize);
+        let types = types_at(alloc, table.columns.items(), sequence.items())?;
         let dirs = dirs_of(alloc, sequence.items())?;
         let items = position_columns(alloc, catalog, query)?;
         let position_dirs = item_dirs(alloc, items.items())?;
@@ -97,6 +100,7 @@ impl<'a> Scan<'a> {
             fixed,
             front,
             sequence,
+            types,
             dirs,
             items,
             position_dirs,

@@ -1,4 +1,4 @@
-use Rattle.std.proofs.Common.{◌≤◌, List, length, get_or, [], subst, arith}
+use Rattle.std.proofs.Common.{◌≤◌, List, length, get_or, [], refl, subst, arith}
 use Rattle.std.proofs.lemmas.List.{take_all}
 use Rattle.std.proofs.lemmas.Result.{err_from_is_err_and}
 use Rattle.std.specs.Option.{option_copied}
@@ -7,9 +7,10 @@ use Rattle.pq_base.specs.declared.value.Value.{Value}
 use Rattle.pq_store.specs.Content.{AreAnswers}
 use Rattle.pq_store.specs.Rounds.{ArePairsOf, IsPartAsked}
 use Rattle.pq_calls.specs.Calls.{seen_world}
+use Rattle.pq_scan.specs.Asked.{constants_asked}
 use Rattle.pq_scan.specs.Candidates.{AreCandidates}
 use Rattle.pq_scan.specs.Scanned.{AreGathered}
-use Rattle.pq_scan.proofs.Asked.{fronts_there, found_stops, found_answered, found_adds, found_gathered, found_kept, combo_here, constants_here, pairs_here, each_here}
+use Rattle.pq_scan.proofs.Asked.{fronts_there, found_stops, found_answered, found_adds, found_gathered, found_kept, combo_here, form_here, pairs_here, each_here}
 use Rattle.pq_scan.proofs.Gathered.{gathered_more}
 use Rattle.pq_scan.proofs.Steps.{each_at, candidates_more}
 use Rattle.pq_scan.proofs.gather.gather.Goals as goal
@@ -20,8 +21,8 @@ add_found-requires-clause-front g c =
     let after = option_copied c.args.after in
     let inputs = c.args.inputs.now in
     let place = c.loop-place.place in
-    fronts_there scan after (get_or inputs place []) c.args.limit c.items-in-loop-place-4.result.now
-    (pairs_here scan after inputs place c.loop-place-test.true _ _ _ _ _ _ c.items.ensures c.in_ok-asks.ensures.ranges c.items-in-loop-place-3.ensures c.index-items-place-in-loop-place.is c.items-in-loop-place-4.ensures
+    fronts_there scan after (get_or inputs place []) c.args.limit c.items-in-loop-place-3.result.now
+    (pairs_here scan after inputs place c.loop-place-test.true _ _ _ _ _ _ c.items.ensures c.in_ok-asks.ensures.ranges c.items-in-loop-place-2.ensures c.index-items-place-in-loop-place.is c.items-in-loop-place-3.ensures
     (IsPartAsked c.args.limit) c.in_ok-parts.ensures.parts)
 
 pub returns-in_err-add_found-clause-cause : goal.returns-in_err-add_found-clause-cause
@@ -33,11 +34,11 @@ returns-in_err-add_found-clause-cause g c =
     let told = g.S.Store.content c.args.calls.now.store.now in
     let p = err_from_is_err_and c.from_residual-in_err-add_found.result c.from_residual-in_err-add_found.ensures.1 in
     rw (p.1, p.2)
-    (found_stops scan after (get_or inputs place []) c.args.limit c.items-in-loop-place-4.result.now
-    (pairs_here scan after inputs place c.loop-place-test.true _ _ _ _ _ _ c.items.ensures c.in_ok-asks.ensures.ranges c.items-in-loop-place-3.ensures c.index-items-place-in-loop-place.is c.items-in-loop-place-4.ensures
+    (found_stops scan after (get_or inputs place []) c.args.limit c.items-in-loop-place-3.result.now
+    (pairs_here scan after inputs place c.loop-place-test.true _ _ _ _ _ _ c.items.ensures c.in_ok-asks.ensures.ranges c.items-in-loop-place-2.ensures c.index-items-place-in-loop-place.is c.items-in-loop-place-3.ensures
     (IsPartAsked c.args.limit) c.in_ok-parts.ensures.parts)
     (seen_world g.S.Store.content g.S.Store.faults c.args.calls.now) (seen_world g.S.Store.content g.S.Store.faults c.ranges-2.new.self)
-    (pairs_here scan after inputs place c.loop-place-test.true _ _ _ _ _ _ c.items.ensures c.in_ok-asks.ensures.ranges c.items-in-loop-place-3.ensures c.index-items-place-in-loop-place.is c.items-in-loop-place-4.ensures
+    (pairs_here scan after inputs place c.loop-place-test.true _ _ _ _ _ _ c.items.ensures c.in_ok-asks.ensures.ranges c.items-in-loop-place-2.ensures c.index-items-place-in-loop-place.is c.items-in-loop-place-3.ensures
     (ArePairsOf told c.args.limit) c.in_ok-parts.ensures.answer)
     c.in_err-add_found.field-0.0 c.in_err-add_found.ensures.cause c.in_err-add_found.ensures.tells)
 
@@ -47,11 +48,11 @@ returns-in_err-add_found-clause-answered g c =
     let after = option_copied c.args.after in
     let inputs = c.args.inputs.now in
     let place = c.loop-place.place in
-    let pairs = c.items-in-loop-place-4.result.now in
+    let pairs = c.items-in-loop-place-3.result.now in
     let p = err_from_is_err_and c.from_residual-in_err-add_found.result c.from_residual-in_err-add_found.ensures.1 in
     rw (p.1, p.2)
     (found_answered g.S.Store.answers pairs
-    (each_here scan after inputs place c.loop-place-test.true _ _ _ _ _ pairs c.items.ensures c.in_ok-asks.ensures.ranges c.items-in-loop-place-3.ensures c.index-items-place-in-loop-place.is c.items-in-loop-place-4.ensures
+    (each_here scan after inputs place c.loop-place-test.true _ _ _ _ _ pairs c.items.ensures c.in_ok-asks.ensures.ranges c.items-in-loop-place-2.ensures c.index-items-place-in-loop-place.is c.items-in-loop-place-3.ensures
     (AreAnswers g.S.Store.answers) c.in_ok-parts.ensures.long c.in_ok-parts.ensures.answers)
     c.in_err-add_found.field-0.0 c.in_err-add_found.ensures.tells)
 
@@ -64,19 +65,19 @@ loop-place-preserved g c =
     let within = c.loop-place-test.true in
     let combo : List (List Value) = get_or inputs place [] in
     let told = g.S.Store.content c.args.calls.now.store.now in
-    let pairs = c.items-in-loop-place-4.result.now in
-    let own = c.items-in-loop-place-2.result.now in
+    let pairs = c.items-in-loop-place-3.result.now in
     let old = c.loop-place.found in
     let new = c.add_found.new.found in
-    let part = pairs_here scan after inputs place within _ _ _ _ _ pairs c.items.ensures c.in_ok-asks.ensures.ranges c.items-in-loop-place-3.ensures c.index-items-place-in-loop-place.is c.items-in-loop-place-4.ensures (IsPartAsked c.args.limit) c.in_ok-parts.ensures.parts in
-    let are = pairs_here scan after inputs place within _ _ _ _ _ pairs c.items.ensures c.in_ok-asks.ensures.ranges c.items-in-loop-place-3.ensures c.index-items-place-in-loop-place.is c.items-in-loop-place-4.ensures (ArePairsOf told c.args.limit) c.in_ok-parts.ensures.answer in
-    let constants = constants_here scan after inputs place within _ _ _ own c.in_ok-asks.ensures.constants c.items-in-loop-place.ensures c.index-items-place.is c.items-in-loop-place-2.ensures in
+    let part = pairs_here scan after inputs place within _ _ _ _ _ pairs c.items.ensures c.in_ok-asks.ensures.ranges c.items-in-loop-place-2.ensures c.index-items-place-in-loop-place.is c.items-in-loop-place-3.ensures (IsPartAsked c.args.limit) c.in_ok-parts.ensures.parts in
+    let are = pairs_here scan after inputs place within _ _ _ _ _ pairs c.items.ensures c.in_ok-asks.ensures.ranges c.items-in-loop-place-2.ensures c.index-items-place-in-loop-place.is c.items-in-loop-place-3.ensures (ArePairsOf told c.args.limit) c.in_ok-parts.ensures.answer in
+    let constants = constants_asked scan combo in
+    let made = c.in_ok-add_found.ensures.adds constants (form_here scan after inputs place within _ _ _ c.in_ok-asks.ensures.forms c.items-in-loop-place.ensures c.index-items-place.is) in
     record {
-      kept = found_kept scan after combo c.args.limit pairs part told are own constants place old new c.in_ok-add_found.ensures.adds (length inputs) within c.loop-place.invariant.kept;
+      kept = found_kept scan after combo c.args.limit pairs part told are constants refl place old new made (length inputs) within c.loop-place.invariant.kept;
       codes = gathered_more scan c.args.limit after told inputs place combo old new within (combo_here scan after inputs place within) c.loop-place.invariant.codes
-          (found_gathered scan after combo c.args.limit pairs part told are own constants place old new c.in_ok-add_found.ensures.adds);
+          (found_gathered scan after combo c.args.limit pairs part told are constants refl place old new made);
       answer = candidates_more scan told c.args.limit after inputs place combo old new within (combo_here scan after inputs place within) c.loop-place.invariant.answer
-          (found_adds scan after combo c.args.limit pairs part told are own constants place old new c.in_ok-add_found.ensures.adds c.requires.ready c.requires.cursor
+          (found_adds scan after combo c.args.limit pairs part told are constants refl place old new made c.requires.ready c.requires.cursor
           (each_at _ inputs place combo c.requires.inputs within (combo_here scan after inputs place within)));
     }
 
