@@ -11,10 +11,9 @@ use Rattle.pq_nodes.specs.Combos.{FitsTables}
 use Rattle.pq_nodes.specs.Operators.{IsCursor}
 use Rattle.pq_serving.specs.Laws.{IsScanned}
 use Rattle.pq_serving.specs.Scanning.{passes, lying}
-use Rattle.pq_scan.specs.declared.keys.Input.{Input}
 use Rattle.pq_scan.specs.declared.prepared.Scan.{Scan}
 use Rattle.pq_scan.specs.Candidates.{Candidate, scanned_table, AreFirst, IsHeld, IsCandidate, candidate_at, row_candidate, AddsCandidates}
-use Rattle.pq_scan.specs.Inputs.{IsInputAt, low_code, high_code}
+use Rattle.pq_scan.specs.Inputs.{Input, IsInputAt, low_code, high_code}
 use Rattle.pq_scan.specs.Prepared.{asked_over, IsScannable}
 use Rattle.pq_scan.proofs.Told.{held_are, candidates_are}
 

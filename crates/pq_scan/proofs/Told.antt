@@ -36,10 +36,9 @@ use Rattle.pq_serving.specs.Scanning.{position_directions, constant, constants, 
 use Rattle.pq_serving.specs.Starts.{under, start_of, filled_values}
 use Rattle.pq_serving.proofs.Found.{found_position}
 use Rattle.pq_serving.proofs.Whole.{entry_scans, row_scans, served_is, wide_is, cursor_long}
-use Rattle.pq_scan.specs.declared.keys.Input.{Input}
 use Rattle.pq_scan.specs.declared.prepared.Scan.{Scan}
 use Rattle.pq_scan.specs.Candidates.{scanned_table, held_of, shown_values, AreFirst, candidate_at, row_candidate, input_candidates}
-use Rattle.pq_scan.specs.Inputs.{IsInputAt, low_code, high_code}
+use Rattle.pq_scan.specs.Inputs.{Input, IsInputAt, low_code, high_code}
 use Rattle.pq_scan.specs.Prepared.{asked_over, item_directions, IsPrepared}
 
 pub map_map : {A B D : Type 0} (f : A → B) (g : B → D) (xs : List A) → map g (map f xs) ≡ map (λ x. g (f x)) xs

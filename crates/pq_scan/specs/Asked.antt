@@ -7,19 +7,14 @@ use Rattle.pq_store.specs.declared.store.Pair.{Pair}
 use Rattle.pq_entries.specs.Entries.{OfEachRange, key_front}
 use Rattle.pq_operands.specs.Ties.{cells_tied}
 use Rattle.pq_serving.specs.Scanning.{constant, passes}
-use Rattle.pq_scan.specs.declared.keys.Input.{Input}
 use Rattle.pq_scan.specs.declared.prepared.Scan.{Scan}
 use Rattle.pq_scan.specs.Candidates.{Candidate, scanned_table, AreHeldWithin, AreFirst, IsHeld, candidate_at}
-use Rattle.pq_scan.specs.Inputs.{low_code, high_code}
+use Rattle.pq_scan.specs.Inputs.{Input, input_with, low_code, high_code}
 use Rattle.pq_scan.specs.Prepared.{asked_over}
 
 -- the ties and constants of an input
 abbrev pub input_at : Scan → List (List Value) → Input
-input_at scan combo =
-    record {
-      ties = cells_tied scan.query.now scan.params.now scan.rel combo scan.front;
-      constants = map (constant (asked_over scan []) scan.rel combo) scan.items;
-    }
+input_at scan combo = input_with scan combo (cells_tied scan.query.now scan.params.now scan.rel combo scan.front)
 
 -- the range of an input, strictly after a cursor
 abbrev pub range_of : Scan → Option (List Value) → List (List Value) → Ends

@@ -23,6 +23,11 @@ form_behind code (g ∷ gs) [] = code
 form_behind code (Some v ∷ gs) (d ∷ ds) = form_behind (code ++ component d v) gs ds
 form_behind code (None ∷ gs) (d ∷ ds) = form_behind [] gs ds
 
+-- the form behind parts and behind the code of constants
+abbrev pub form_with : List FormPart → List ℕ → List (Option Value) → List Dir → PlaceForm
+form_with parts code constants dirs =
+    record { parts = parts ++ form_parts code constants dirs; behind = form_behind code constants dirs }
+
 abbrev pub form_of : List (Option Value) → List Dir → PlaceForm
 form_of constants dirs = record { parts = form_parts [] constants dirs; behind = form_behind [] constants dirs }
 

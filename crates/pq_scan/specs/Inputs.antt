@@ -5,10 +5,18 @@ use Rattle.pq_serving.specs.Scanning.{constant}
 use Rattle.pq_operands.specs.Ties.{cells_tied}
 use Rattle.pq_scan.specs.declared.keys.Edge.TheVariants.{At, Past}
 use Rattle.pq_scan.specs.declared.keys.End.TheVariants.{Low, High}
-use Rattle.pq_scan.specs.declared.keys.Input.{Input}
 use Rattle.pq_scan.specs.declared.prepared.Scan.{Scan}
 use Rattle.pq_scan.specs.Ends.{started_key, end_code}
 use Rattle.pq_scan.specs.Prepared.{asked_over}
+
+pub record Input : Type 0 where
+  pub ties : List Value
+  pub constants : List (Option Value)
+
+-- with these tied values
+abbrev pub input_with : Scan → List (List Value) → List Value → Input
+input_with scan combo ties =
+    record { ties = ties; constants = map (constant (asked_over scan []) scan.rel combo) scan.items }
 
 pub record IsInputAt (scan : Scan) (combo : List (List Value)) (input : Input) : Type 0 where
   pub ties_is : input.ties ≡ cells_tied scan.query.now scan.params.now scan.rel combo scan.front

@@ -5,7 +5,7 @@ ghost use Rattle.pq_scan.specs.Forms.{form_asked};
 ghost use Rattle.pq_scan.specs.Prepared.{IsPrepared};
 
 use crate::forms::{PlaceForm, form_of};
-use crate::keys::{ends_of, input_of};
+use crate::keys::range_of;
 use crate::passing::passes;
 use crate::prepared::Scan;
 use pq_base::{List, NoMem, Row};
@@ -36,11 +36,10 @@ fn ask_of(alloc: Global, scan: &Scan<'_>, combo: &Combo, after: Option<&Row>) ->
             },
         });
     }
-    let input = input_of(alloc, scan, combo)?;
-    let ends = ends_of(alloc, scan, combo, &input, after)?;
-    let form = form_of(alloc, input.constants.items(), scan.position_dirs.items())?;
+    let range = range_of(alloc, scan, combo, after)?;
+    let form = form_of(alloc, scan, combo)?;
     Ok(Ask {
-        range: Some(ends),
+        range: Some(range),
         form,
     })
 }

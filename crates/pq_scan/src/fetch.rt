@@ -105,7 +105,7 @@ fn behind_each(
     requires alike { length rows ≡ length places.now }
     ensures { IfOk result (λ found. found ≡ rows_behind inputs.now places.now rows) }
 {
-    let mut found = List::new(alloc);
+    let mut found = List::with_room(alloc, places.len())?;
     let mut at = 0;
     for row in rows.into_vec() {
         let combo = behind(alloc, &inputs[places[at]], row)?;

@@ -6,10 +6,11 @@ ghost use Rattle.pq_base.specs.declared.value.Value.{Value};
 ghost use Rattle.pq_key_code.specs.KeyCode.{code_of};
 ghost use Rattle.pq_schema.specs.Relations.{belongs_to};
 ghost use Rattle.pq_serving.specs.Keys.{bound_key, higher, lesser_key};
-ghost use Rattle.pq_serving.specs.Scanning.{first_direction, rest};
+ghost use Rattle.pq_serving.specs.Scanning.{first_direction, rest, constant};
 ghost use Rattle.pq_serving.specs.Starts.{under, lower, upper};
 ghost use Rattle.pq_scan.specs.Ends.{is_past, edge_value, edge_bounds, bounds_by, pred_bounds, own_bounds, farther, farthest, with_key, bound_of, direction_of, started_key, end_code};
-ghost use Rattle.pq_scan.specs.Inputs.{IsInputAt, low_code, high_code};
+ghost use Rattle.pq_scan.specs.Asked.{range_of};
+ghost use Rattle.pq_scan.specs.Inputs.{input_with, low_code, high_code};
 ghost use Rattle.pq_entries.specs.Entries.{key_front};
 ghost use Rattle.pq_scan.specs.Prepared.{asked_over, IsPrepared};
 
@@ -18,7 +19,7 @@ use crate::passing::is_tied;
 use crate::places::constants;
 use crate::prepared::Scan;
 use crate::starts::{Start, start_at};
-use pq_base::{Bytes, Dir, List, NoMem, Op, Row, Value};
+use pq_base::{Bytes, Dir, NoMem, Op, Row, Value};
 use pq_key_code::{entry_front, past, put_component, row_front};
 use pq_operands::{side, tied_cells};
 use pq_plan::Combo;
@@ -308,18 +309,22 @@ fn rest_direction(scan: &Scan<'_>) -> Dir
 fn with_start(
     alloc: Global,
     scan: &Scan<'_>,
+    combo: &Combo,
     ties: &Row,
-    constants: &[Option<Value>],
     after: Option<&Row>,
     key: Bytes,
 ) -> Result<Bytes, NoMem>
-    ensures { IfOk result (λ low. low ≡ started_key scan.now.dirs ties.now scan.now.position_dirs constants.now
-        (option_copied after.entry) key) }
+    requires { IsPrepared scan.now }
+    ensures { IfOk result (λ low. low ≡ started_key scan.now.dirs ties.now scan.now.position_dirs
+        (map (constant (asked_over scan.now []) scan.now.rel combo.now) scan.now.items) (option_copied after.entry)
+        key) }
 {
     match after {
         None => Ok(key),
         Some(at) => {
-            let start = start_at(alloc, scan.position_dirs.items(), constants, at)?;
+            let constants = constants(alloc, scan, combo)?;
+            let dirs = scan.position_dirs.items();
+            let start = start_at(alloc, dirs, constants.items(), at)?;
             let one = start_key(alloc, scan.dirs.items(), ties, &start)?;
             Ok(higher(one, key))
         }
@@ -356,43 +361,40 @@ fn with_front(alloc: Global, scan: &Scan<'_>, code: &Bytes) -> Result<Bytes, NoM
     Ok(key)
 }
 
-/// What is the same for all rows of an input: the tied values, and the constants of its positions.
-#[derive(Drop)]
-pub(crate) struct Input {
-    pub ties: Row,
-    pub constants: List<Option<Value>>,
-}
-
-/// The ties and constants of an input.
-pub(crate) fn input_of(alloc: Global, scan: &Scan<'_>, combo: &Combo) -> Result<Input, NoMem>
-    requires { IsPrepared scan.now }
-    ensures { IfOk result (IsInputAt scan.now combo.now) }
-{
-    let front = scan.front.items();
-    let ties = tied_cells(alloc, scan.query, scan.params, scan.rel, combo, front)?;
-    let constants = constants(alloc, scan, combo)?;
-    Ok(Input { ties, constants })
-}
-
-/// The keys from which an input's range starts, strictly after a cursor, and before which it ends.
-pub(crate) fn ends_of(
+/// The keys from which an input's range starts, strictly after a cursor, and before which it ends, by the tied
+/// values.
+fn ends_of(
     alloc: Global,
     scan: &Scan<'_>,
     combo: &Combo,
-    input: &Input,
+    ties: &Row,
     after: Option<&Row>,
 ) -> Result<Ends, NoMem>
     requires { IsPrepared scan.now }
     ensures low { IfOk result (λ ends. ends.low ≡ key_front scan.now.number scan.now.access ++ low_code scan.now
-        combo.now input.now (option_copied after.entry)) }
+        combo.now (input_with scan.now combo.now ties.now) (option_copied after.entry)) }
     ensures high { IfOk result (λ ends. ends.high ≡ key_front scan.now.number scan.now.access ++ high_code scan.now
-        combo.now input.now) }
+        combo.now (input_with scan.now combo.now ties.now)) }
 {
-    let ties = &input.ties;
     let low = end_code(alloc, scan, combo, ties, End::Low, Edge::At)?;
-    let low = with_start(alloc, scan, ties, input.constants.items(), after, low)?;
+    let low = with_start(alloc, scan, combo, ties, after, low)?;
     let low = with_front(alloc, scan, &low)?;
     let high = end_code(alloc, scan, combo, ties, End::High, Edge::Past)?;
     let high = with_front(alloc, scan, &high)?;
     Ok(Ends { low, high })
+}
+
+/// The range of an input, strictly after a cursor.
+pub(crate) fn range_of(
+    alloc: Global,
+    scan: &Scan<'_>,
+    combo: &Combo,
+    after: Option<&Row>,
+) -> Result<Ends, NoMem>
+    requires { IsPrepared scan.now }
+    ensures { IfOk result (λ ends. ends ≡ range_of scan.now (option_copied after.entry) combo.now) }
+{
+    let front = scan.front.items();
+    let ties = tied_cells(alloc, scan.query, scan.params, scan.rel, combo, front)?;
+    ends_of(alloc, scan, combo, &ties, after)
 }

@@ -139,6 +139,9 @@ fn rising_lists<T: Drop>(alloc: Global, mut found: Vec<Placed<T>>) -> Result<Vec
     Ok(lists)
 }
 
+// Most pages have no more items than this.
+const PAGE_ROOM: usize = 16;
+
 /// A merge: of each list that isn't spent its head stands in the heap.
 #[derive(Drop)]
 pub struct Heads<T> {
@@ -189,7 +192,7 @@ impl<T: Drop> Heads<T> {
         requires { IsMerge (heap_items self.heap) }
         ensures { IfOk result (λ first. first ≡ take k (merged_lists (heap_items self.heap))) }
     {
-        let mut first = List::new(alloc);
+        let mut first = List::with_room(alloc, k.min(PAGE_ROOM))?;
         for _ in 0..k {
             let Some(placed) = self.next()? else {
                 return Ok(first);

@@ -2,4 +2,4 @@ use Rattle.std.proofs.Common.{length}
 use Rattle.pq_scan.proofs.forms.+form_behind.Given as goal
 
 abbrev pub decreases-form_behind : goal.decreases-form_behind
-decreases-form_behind l = length l.constants.now
+decreases-form_behind l = length l.items.now

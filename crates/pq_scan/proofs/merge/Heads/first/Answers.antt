@@ -7,7 +7,7 @@ use Rattle.pq_scan.proofs.merge.Heads.first.Goals as goal
 
 pub loop-init : goal.loop-init
 loop-init g c =
-    (c.requires, ap (λ (l : List (Placed g.row.T.Denot)). l ++ merged_lists (heap_items c.args.self.heap)) (sym c.new-first.ensures), ap (λ (l : List (Placed g.row.T.Denot)). length l) c.new-first.ensures)
+    (c.requires, ap (λ (l : List (Placed g.row.T.Denot)). l ++ merged_lists (heap_items c.args.self.heap)) (sym c.in_ok-first.ensures), ap (λ (l : List (Placed g.row.T.Denot)). length l) c.in_ok-first.ensures)
 
 pub next-requires : goal.next-requires
 next-requires g c = c.loop.invariant.0
