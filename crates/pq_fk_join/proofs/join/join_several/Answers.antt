@@ -9,7 +9,7 @@ use Rattle.pq_nodes.specs.Combos.{FitsTables}
 use Rattle.pq_fk_join.specs.Joined.{tied_at}
 use Rattle.pq_fk_join.proofs.Asked.{none_asked, at_here, asked_here, join_stops, one_joined, one_looked_up, one_fits}
 use Rattle.pq_fk_join.proofs.Coded.{adds_more, looks_up_more}
-use Rattle.pq_fk_join.proofs.join.join_each.Goals as goal
+use Rattle.pq_fk_join.proofs.join.join_several.Goals as goal
 
 pub table_of-table-requires-clause-query : goal.table_of-table-requires-clause-query
 table_of-table-requires-clause-query g c = valid_query c.args.catalog.now c.args.query.now c.known.ensures c.requires.asked.resolved

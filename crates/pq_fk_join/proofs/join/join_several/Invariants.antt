@@ -3,7 +3,7 @@ use Rattle.std.specs.List.{AllByRecursion}
 use Rattle.std.specs.Vec.Iter.{into_iter_items}
 use Rattle.pq_nodes.specs.Combos.{FitsTables}
 use Rattle.pq_fk_join.specs.Joined.{AddsJoined, AddsLookedUp}
-use Rattle.pq_fk_join.proofs.join.join_each.Given as goal
+use Rattle.pq_fk_join.proofs.join.join_several.Given as goal
 
 abbrev pub invariant-loop-input : goal.invariant-loop-input
 invariant-loop-input g l = record {
