@@ -1,4 +1,4 @@
 pub mod Codes
+pub mod Gathered
 pub mod Parts
 pub mod Sorted
-pub mod Whole

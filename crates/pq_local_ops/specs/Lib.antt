@@ -1,4 +1,4 @@
 pub mod Lists
 pub mod Places
 pub mod Codes
-pub mod Whole
+pub mod Rising

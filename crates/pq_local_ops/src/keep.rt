@@ -66,7 +66,7 @@ fn keep_above(
     requires { length cols.now ≡ length dirs.now }
     ensures { IfOk result (λ kept. kept ≡ filter (is_above cols.now dirs.now code.now) combos) }
 {
-    let mut kept = List::new(alloc);
+    let mut kept = List::with_room(alloc, combos.items().len())?;
     for combo in combos.into_vec() {
         let at = code_at(alloc, &combo, cols, dirs)?;
         if code.cmp(at.items()).is_lt() {
@@ -107,6 +107,8 @@ pub fn first_k(combos: List<Combo>, k: u16) -> List<Combo>
     ensures part { ArePart combos result }
 {
     let mut first = combos;
-    first.truncate(k as usize);
+    if first.items().len() > k as usize {
+        first.truncate(k as usize);
+    }
     first
 }

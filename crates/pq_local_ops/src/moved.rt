@@ -1,30 +1,31 @@
-//! What is selected of combinations that are dropped next: a row that is selected whole is moved out.
-ghost use Rattle.std.specs.Prelude.{◌≡◌, ◌≤◌, ◌&&◌, ◌==◌, length, map, IfOk};
+//! What is selected of combinations that are dropped next: values of one row are moved out in that row.
+ghost use Rattle.std.specs.Prelude.{◌≡◌, ◌++◌, length, map, take, IfOk, IsTrue};
 ghost use Rattle.pq_plan.specs.Answer.{row_of, selected_values, values_at};
-ghost use Rattle.pq_local_ops.specs.Whole.{are_last, is_whole};
+ghost use Rattle.pq_local_ops.specs.Rising.{are_of, are_rising, value_in};
 
 use crate::position::values_at;
-use pq_base::{List, NoMem, Row};
+use pq_base::{List, NoMem, Row, Value};
 use pq_plan::Combo;
 use pq_schema::{ColRef, Query};
 use std::alloc::Global;
 use std::mem::replace;
 
-fn is_column(col: ColRef, rel: u8, at: usize) -> bool
-    ensures { result ≡ ((col.rel == rel) && (col.col == at)) }
+/// Whether all are columns of the relation.
+fn are_of(rel: u8, cols: &[ColRef]) -> bool
+    ensures { result ≡ are_of rel cols.now }
 {
-    col.rel == rel && col.col as usize == at
+    cols.iter().all(|col| col.rel == rel)
 }
 
-/// Whether these are the last columns of a relation that has so many, in their order.
-fn are_last(rel: u8, count: usize, cols: &[ColRef]) -> bool
-    requires { length cols.now ≤ count }
-    ensures { result ≡ are_last rel count cols.now }
+/// Whether each column stands behind the one before it, the first not before this place, and none beyond the end.
+fn are_rising(from: usize, end: usize, cols: &[ColRef]) -> bool
+    ensures { result ≡ are_rising from end cols.now }
 {
     match cols {
         [] => true,
         [first, rest @ ..] => {
-            is_column(*first, rel, count - cols.len()) && are_last(rel, count, rest)
+            let at = first.col as usize;
+            from <= at && at < end && are_rising(at + 1, end, rest)
         }
     }
 }
@@ -37,13 +38,6 @@ fn width(rel: u8, combo: &Combo) -> usize
         Some(row) => row.items().len(),
         None => 0,
     }
-}
-
-/// Whether the columns are those of the combination's whole row of a relation, in their order.
-fn is_whole(rel: u8, combo: &Combo, cols: &[ColRef]) -> bool
-    ensures { result ≡ is_whole rel combo.now cols.now }
-{
-    width(rel, combo) == cols.len() && are_last(rel, cols.len(), cols)
 }
 
 /// The row of a relation, without the others.
@@ -68,13 +62,37 @@ fn first_relation(cols: &[ColRef]) -> u8 {
     }
 }
 
-/// The values of a combination at some columns.
+/// Moves the values at the columns behind those before this place, and drops all others.
+fn gather(values: &mut Vec<Value>, at: usize, cols: &[ColRef])
+    requires { IsTrue (are_rising at (length values.old.items) cols.now) }
+    ensures { values.new.items ≡ take at values.old.items ++ map (value_in values.old.items) cols.now }
+{
+    match cols {
+        [] => values.truncate(at),
+        [first, rest @ ..] => {
+            values.swap(at, first.col as usize);
+            gather(values, at + 1, rest);
+        }
+    }
+}
+
+/// The values of a row at the columns, without the others.
+fn gathered(row: Row, cols: &[ColRef]) -> Row
+    requires { IsTrue (are_rising 0 (length row) cols.now) }
+    ensures { result ≡ map (value_in row) cols.now }
+{
+    let mut values = row.into_vec();
+    gather(&mut values, 0, cols);
+    Row::from_vec(values)
+}
+
+/// The values of a combination at some columns. Those of rising columns of one relation are moved.
 fn take_values(alloc: Global, combo: Combo, cols: &[ColRef]) -> Result<Row, NoMem>
     ensures { IfOk result (λ values. values ≡ values_at combo cols.now) }
 {
     let rel = first_relation(cols);
-    if is_whole(rel, &combo, cols) {
-        return Ok(take_row(alloc, rel, combo));
+    if are_of(rel, cols) && are_rising(0, width(rel, &combo), cols) {
+        return Ok(gathered(take_row(alloc, rel, combo), cols));
     }
     values_at(alloc, &combo, cols)
 }

@@ -1,8 +1,11 @@
-use Rattle.std.proofs.Common.{sym, ◌∙◌}
-use Rattle.pq_local_ops.proofs.Whole.{whole_values}
+use Rattle.std.proofs.Common.{List, map, sym, ap, ◌∙◌}
+use Rattle.pq_base.specs.declared.value.Value.{Value}
+use Rattle.pq_local_ops.specs.Rising.{value_in}
+use Rattle.pq_local_ops.proofs.Gathered.{values_in}
 use Rattle.pq_local_ops.proofs.moved.take_values.Goals as goal
 
-pub returns-then-is_whole : goal.returns-then-is_whole
-returns-then-is_whole c =
-    c.take_row.ensures
-    ∙ sym (whole_values c.first_relation-rel.result c.args.combo c.args.cols.now (sym c.is_whole.ensures ∙ c.if-is_whole.true))
+pub returns-then-are_rising : goal.returns-then-are_rising
+returns-then-are_rising c =
+    c.gathered.ensures
+    ∙ ap (λ (row : List Value). map (value_in row) c.args.cols.now) c.take_row.ensures
+    ∙ sym (values_in c.first_relation-rel.result c.args.combo c.args.cols.now (sym c.are_of.ensures ∙ c.if-are_of.true))
