@@ -37,7 +37,7 @@ fn input_of(tree: &Physical) -> Option<&Physical>
 fn unit(alloc: Global) -> Result<List<Combo>, NoMem>
     ensures { IfOk result (λ found. found ≡ [] ∷ []) }
 {
-    let mut found = List::new(alloc);
+    let mut found = List::with_room(alloc, 1)?;
     found.push(alloc, Combo::empty(alloc))?;
     Ok(found)
 }

@@ -65,7 +65,7 @@ pub fn tied_cells(
 ) -> Result<Row, NoMem>
     ensures { IfOk result (λ cells. cells ≡ cells_tied query.now params.now rel combo.now cols.now) }
 {
-    let mut cells = Row::new(alloc);
+    let mut cells = Row::with_room(alloc, cols.len())?;
     for col in cols {
         cells.push(alloc, tied_cell(alloc, query, params, rel, combo, *col)?)?;
     }

@@ -23,7 +23,7 @@ use std::sync::ledger::Ledger;
 fn row_lines(alloc: Global, rows: List<Row>) -> Result<List<Line>, NoMem>
     ensures { IfOk result (λ lines. lines ≡ map Line.Row rows) }
 {
-    let mut lines = List::new(alloc);
+    let mut lines = List::with_room(alloc, rows.items().len())?;
     for row in rows.into_vec() {
         lines.push(alloc, Line::Row(row))?;
     }
