@@ -2,3 +2,4 @@ pub mod Lists
 pub mod Places
 pub mod Codes
 pub mod Rising
+pub mod Ordered

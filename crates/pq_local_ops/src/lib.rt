@@ -7,6 +7,7 @@
 
 mod keep;
 mod moved;
+mod order;
 mod position;
 mod sort;
 

@@ -8,6 +8,7 @@ ghost use Rattle.pq_nodes.specs.Combos.{FitsTables};
 ghost use Rattle.pq_local_ops.specs.Lists.{AreOrdered, ArePart};
 ghost use Rattle.pq_local_ops.specs.Codes.{coded_combo};
 
+use crate::order::are_ordered;
 use crate::position::{code_at, places_of};
 use pq_base::{Bytes, Dir, List, NoMem};
 use pq_plan::Combo;
@@ -58,8 +59,8 @@ fn combos_of(alloc: Global, items: Vec<Coded>) -> Result<List<Combo>, NoMem>
     Ok(combos)
 }
 
-/// The combinations in the order of their positions; those of one position keep their order. Fewer than two
-/// are in order as they are.
+/// The combinations in the order of their positions; those of one position keep their order. Those that are in
+/// order are left as they are.
 pub fn sort_combos(
     alloc: Global,
     catalog: &Catalog,
@@ -75,7 +76,12 @@ pub fn sort_combos(
         return Ok(combos);
     }
     let places = places_of(alloc, catalog, query)?;
-    let mut items = with_codes(alloc, places.cols.items(), places.dirs.items(), combos)?;
+    let cols = places.cols.items();
+    let dirs = places.dirs.items();
+    if are_ordered(cols, dirs, combos.items()) {
+        return Ok(combos);
+    }
+    let mut items = with_codes(alloc, cols, dirs, combos)?;
     sort_coded(&mut items)?;
     combos_of(alloc, items)
 }
