@@ -115,6 +115,13 @@ pub fn start<S: Store<L>, L: Ledger>(
     finish_opening(alloc, found, &settled, store, meter)
 }
 
+/// Tells a proof that there are at most 256 definitions.
+fn known_few(planned: &PlannedCatalog)
+    ensures { length planned.now.definitions ≤ 256 }
+{
+    let _defs = planned.catalog().defs();
+}
+
 /// Reads the definitions of a store that was settled.
 fn read_catalog<S: Store<L>, L: Ledger>(
     alloc: Global,
@@ -145,7 +152,10 @@ fn read_catalog<S: Store<L>, L: Ledger>(
         found.items(),
     )? {
         Err(damage) => Err(Broke::Damaged(damage)),
-        Ok((planned, mark)) => Ok(Found { planned, mark }),
+        Ok((planned, mark)) => {
+            known_few(&planned);
+            Ok(Found { planned, mark })
+        }
     }
 }
 
