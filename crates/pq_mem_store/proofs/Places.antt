@@ -1,5 +1,5 @@
 -- A list of pairs at the place of a key.
-use Rattle.std.proofs.Common.{◌≡◌, ℕ, ◌+◌, ◌-◌, ◌<◌, ◌≤◌, zero, suc, Bool, true, false, not, cond, List, [], ◌∷◌, ◌++◌, take, drop, get_or, set, length, filter, IsTrue, Some, None, refl, sym, ap, subst, inl, inr, ◌∙◌, add-one, arith}
+use Rattle.std.proofs.Common.{◌≡◌, ℕ, ◌+◌, ◌<◌, ◌≤◌, zero, suc, Bool, true, false, not, cond, List, [], ◌∷◌, ◌++◌, take, drop, get_or, set, length, filter, IsTrue, Some, None, refl, sym, ap, subst, inl, inr, ◌∙◌, add-one, arith}
 use Rattle.std.specs.Bool.{◌==◌}
 use Rattle.std.specs.List.{flat_map, insert as insert_at, remove as remove_at}
 use Rattle.std.specs.Ordering.{is_lt, is_le, is_eq, eq_by_cmp}
@@ -7,15 +7,15 @@ use Rattle.std.specs.declared.cmp.Ordering.{Ordering}
 use Rattle.std.specs.declared.cmp.Ordering.TheVariants.{Less, Equal, Greater}
 use Rattle.std.specs.FinMap.{find, put}
 use Rattle.std.specs.FinMap.Entries.{by_order}
-use Rattle.std.proofs.lemmas.List.{take-append-drop, drop_more, set_split, drop_all, append-nil, drop-drop, drop-take, take_more}
+use Rattle.std.proofs.lemmas.List.{take-append-drop, drop_more, set_split, drop_all, append-nil, take_more}
 use Rattle.std.proofs.lemmas.Bool.{cases_lt}
 use Rattle.std.proofs.lemmas.List.Elements.{filter-append}
 use Rattle.pq_store.specs.Content.{key_cmp, is_rising, is_within}
-use Rattle.pq_mem_store.specs.Runs.{Pairs, has_pairs, first_key, begins_with, are_behind, others, all_have, IsBegun, IsPlace}
+use Rattle.pq_mem_store.specs.Runs.{Pairs, has_pairs, first_key, begins_with, are_behind, others, all_have, IsPlace}
 use Rattle.pq_mem_store.specs.Split.{is_from, are_before, are_from}
 use Rattle.pq_store.proofs.Places.{turned, same_key, itself, is_other, others_below_all}
 use Rattle.pq_mem_store.proofs.Split.{find_none, put_first, find_late, put_late, others_early, none_early}
-use Rattle.pq_mem_store.proofs.Seats.{rising_left, rising_right, behind_first, from_first, from_below, before_run, behind_run, none_from}
+use Rattle.pq_mem_store.proofs.Seats.{not_le, not_from, rising_left, rising_right, behind_first, from_first, from_below, read_is, before_run, none_from}
 
 -- a pair as a run of its own
 abbrev pub alone : List ℕ × List ℕ → Pairs
@@ -34,10 +34,6 @@ equal_of Less is = absurd (cc)
 equal_of Equal is = refl
 equal_of Greater is = absurd (cc)
 
--- a first pair that is no greater, with another key, is lesser
-less_than : (a key : List ℕ) → is_le (key_cmp a key) ≡ true → eq_by_cmp key_cmp key a ≡ false → is_from key a ≡ false
-less_than a key le apart = grind (arith, le, apart, turned a key)
-
 greater_than : (key a : List ℕ) → is_le (key_cmp key a) ≡ true → eq_by_cmp key_cmp key a ≡ false → is_lt (key_cmp key a) ≡ true
 greater_than key a le apart = grind (arith, le, apart)
 
@@ -45,48 +41,48 @@ before_push : (key : List ℕ) (pairs : Pairs) (pair : List ℕ × List ℕ) →
 before_push key [] pair before less = grind (arith, less)
 before_push key (first ∷ pairs) pair before less = grind (arith, before, before_push key pairs pair)
 
+pub behind_begins : (key : List ℕ) (pairs : Pairs) → IsTrue (are_behind key pairs) → begins_with key pairs ≡ false
+behind_begins key [] behind = refl
+behind_begins key (pair ∷ pairs) behind = grind (arith, behind)
+
 -- ---- where a key belongs
 module _ (pairs : Pairs) (key : List ℕ) (up : IsTrue (is_rising pairs)) where
   rises : IsTrue (is_rising (flat_map alone pairs))
   rises = subst (λ ps. IsTrue (is_rising ps)) (sym (alone_flat pairs)) up
 
-  rises_from : (at : ℕ) → IsTrue (is_rising (drop at pairs))
+  pub rises_from : (at : ℕ) → IsTrue (is_rising (drop at pairs))
   rises_from at = rising_right (take at pairs) (drop at pairs) (subst (λ ps. IsTrue (is_rising ps)) (sym (take-append-drop at pairs)) up)
 
   before_at : (at : ℕ) → at < length pairs → ((d : List ℕ × List ℕ) → is_le (key_cmp (get_or pairs at d).0 key) ≡ true) → IsTrue (are_before key (take at pairs))
   before_at at within le = subst (λ ps. IsTrue (are_before key ps)) (alone_flat (take at pairs)) (before_run alone pairs key (alone_have pairs) rises at ([], []) within (le ([], [])))
 
-  behind_at : (n : ℕ) → IsBegun alone pairs key n → IsTrue (are_from key (drop n pairs))
-  behind_at n begun = from_below key key (drop n pairs) (ap is_le (itself key))
-      (subst (λ ps. IsTrue (are_behind key ps)) (alone_flat (drop n pairs)) (behind_run alone pairs key (alone_have pairs) rises n ([], []) (begun.2 ([], []))))
+  -- those up to a lesser one are lesser
+  pub before_next : (at : ℕ) (pair : List ℕ × List ℕ) → at < length pairs → pair ≡ get_or pairs at pair → key_cmp pair.0 key ≡ Less → IsTrue (are_before key (take (at + 1) pairs))
+  before_next at pair within is less =
+      let before = before_at at within (λ d. ap (λ p. is_le (key_cmp p.0 key)) (read_is pairs at at pair d within is refl) ∙ ap is_le less) in
+      subst (λ ps. IsTrue (are_before key ps)) (sym (take_more pairs at pair within ∙ ap (λ p. take at pairs ++ p ∷ []) (sym is)))
+      (before_push key (take at pairs) pair before (not_from key pair.0 less))
 
-  begun_at : (at n : ℕ) → n ≡ at + 1 → IsBegun alone pairs key n → (d : List ℕ × List ℕ) → is_le (key_cmp (get_or pairs at d).0 key) ≡ true
-  begun_at at n next begun d =
-      let same : n - 1 ≡ at = omega arith in
-      ap (λ k. is_le (key_cmp (get_or pairs k d).0 key)) (sym same) ∙ begun.1 d (omega arith)
+  -- and those from a greater one on are greater
+  pub behind_here : (at : ℕ) (pair : List ℕ × List ℕ) → at < length pairs → pair ≡ get_or pairs at pair → key_cmp pair.0 key ≡ Greater → IsTrue (are_behind key (drop at pairs))
+  behind_here at pair within is more = behind_first key (drop at pairs) (rises_from at) (λ _.
+      ap (λ ps. is_lt (key_cmp key (first_key ps))) (drop_more pairs at pair within) ∙ ap (λ p. is_lt (key_cmp key p.0)) (sym is) ∙ not_le pair.0 key (ap is_le more))
 
-  pub place_none : (n : ℕ) → n ≡ 0 → IsBegun alone pairs key n → IsPlace pairs key 0
-  place_none n none begun = (omega arith, refl, subst (λ k. IsTrue (are_from key (drop k pairs))) none (behind_at n begun))
+  pub place_between : (at : ℕ) → at ≤ length pairs → IsTrue (are_before key (take at pairs)) → IsTrue (are_behind key (drop at pairs)) → IsPlace pairs key at
+  place_between at within before behind = (within, before, from_below key key (drop at pairs) (ap is_le (itself key)) behind)
 
-  pub place_found : (at n : ℕ) → n ≡ at + 1 → IsBegun alone pairs key n → begins_with key (drop at pairs) ≡ true → IsPlace pairs key at
-  place_found at n next begun found =
-      let within : at < length pairs = omega (arith, begun.0) in
-      (omega arith, before_at at within (begun_at at n next begun), from_first key (drop at pairs) (rises_from at) (λ _. first_le (drop at pairs) found))
-    where
-      first_le : (rest : Pairs) → begins_with key rest ≡ true → is_le (key_cmp key (first_key rest)) ≡ true
-      first_le [] found = absurd (cc)
-      first_le (pair ∷ rest) found = ap is_le (equal_of (key_cmp key pair.0) found)
+  pub place_equal : (at : ℕ) (pair : List ℕ × List ℕ) → at < length pairs → pair ≡ get_or pairs at pair → key_cmp pair.0 key ≡ Equal → IsPlace pairs key at
+  place_equal at pair within is equal = (
+    omega (arith, within),
+    before_at at within (λ d. ap (λ p. is_le (key_cmp p.0 key)) (read_is pairs at at pair d within is refl) ∙ ap is_le equal),
+    from_first key (drop at pairs) (rises_from at) (λ _.
+        ap (λ ps. is_le (key_cmp key (first_key ps))) (drop_more pairs at pair within) ∙ ap (λ p. is_le (key_cmp key p.0)) (sym is)
+        ∙ ap (λ k. is_le (key_cmp key k)) (same_key pair.0 key equal) ∙ ap is_le (itself key)),
+  )
 
-  pub place_behind : (at n : ℕ) → n ≡ at + 1 → IsBegun alone pairs key n → begins_with key (drop at pairs) ≡ false → IsPlace pairs key n
-  place_behind at n next begun apart =
-      let d : List ℕ × List ℕ = ([], []) in
-      let within : at < length pairs = omega (arith, begun.0) in
-      let other : eq_by_cmp key_cmp key (get_or pairs at d).0 ≡ false = ap (begins_with key) (sym (drop_more pairs at d within)) ∙ apart in
-      let pushed = before_push key (take at pairs) (get_or pairs at d) (before_at at within (begun_at at n next begun)) (less_than (get_or pairs at d).0 key (begun_at at n next begun d) other) in (
-        begun.0,
-        subst (λ k. IsTrue (are_before key (take k pairs))) (sym next) (subst (λ ps. IsTrue (are_before key ps)) (sym (take_more pairs at d within)) pushed),
-        behind_at n begun,
-      )
+  pub equal_begins : (at : ℕ) (pair : List ℕ × List ℕ) → at < length pairs → pair ≡ get_or pairs at pair → key_cmp pair.0 key ≡ Equal → begins_with key (drop at pairs) ≡ true
+  equal_begins at pair within is equal = ap (begins_with key) (drop_more pairs at pair within) ∙ ap (λ p. eq_by_cmp key_cmp key p.0) (sym is)
+      ∙ ap (λ k. eq_by_cmp key_cmp key k) (same_key pair.0 key equal) ∙ ap is_eq (itself key)
 
   -- ---- what stands at the place
   module _ (at : ℕ) (place : IsPlace pairs key at) where
@@ -167,42 +163,21 @@ from_take key zero pairs late = refl
 from_take key (suc n) [] late = refl
 from_take key (suc n) (pair ∷ pairs) late = grind (arith, late, from_take key n pairs)
 
-from_drop : (key : List ℕ) (n : ℕ) (pairs : Pairs) → IsTrue (are_from key pairs) → IsTrue (are_from key (drop n pairs))
-from_drop key zero pairs late = late
-from_drop key (suc n) [] late = refl
-from_drop key (suc n) (pair ∷ pairs) late = from_drop key n pairs (grind (arith, late))
-
-before_drop : (key : List ℕ) (n : ℕ) (pairs : Pairs) → IsTrue (are_before key pairs) → IsTrue (are_before key (drop n pairs))
-before_drop key zero pairs early = early
-before_drop key (suc n) [] early = refl
-before_drop key (suc n) (pair ∷ pairs) early = before_drop key n pairs (grind (arith, early))
-
 all_within : (low high : List ℕ) (pairs : Pairs) → IsTrue (are_from low pairs) → IsTrue (are_before high pairs) → filter (is_within low high) pairs ≡ pairs
 all_within low high [] late early = refl
 all_within low high (pair ∷ pairs) late early = grind (arith, late, early, turned high pair.0, all_within low high pairs)
 
-module _ (pairs : Pairs) (low high : List ℕ) (start end : ℕ) (first : IsPlace pairs low start) (last : IsPlace pairs high end) where
-  from_start : filter (is_within low high) pairs ≡ filter (is_within low high) (drop start pairs)
-  from_start = ap (filter (is_within low high)) (sym (take-append-drop start pairs)) ∙ filter-append (is_within low high) (take start pairs) (drop start pairs)
-      ∙ ap (λ ps. ps ++ filter (is_within low high) (drop start pairs)) (none_early low low high (take start pairs) (ap is_le (itself low)) first.1)
-
-  pub within_places : start ≤ end → take (end - start) (drop start pairs) ≡ filter (is_within low high) pairs
-  within_places forward =
-      let sum : start + (end - start) ≡ end = omega arith in
-      let part = take (end - start) (drop start pairs) in
-      let early = subst (λ ps. IsTrue (are_before high ps)) (ap (λ n. drop start (take n pairs)) (sym sum) ∙ drop-take start (end - start) pairs) (before_drop high start (take end pairs) last.1) in
-      let rest = ap (λ n. drop n pairs) sum in
-      sym (from_start ∙ ap (filter (is_within low high)) (sym (take-append-drop (end - start) (drop start pairs))) ∙ filter-append (is_within low high) part (drop (end - start) (drop start pairs))
-      ∙ ap (λ ps. filter (is_within low high) part ++ filter (is_within low high) ps) (drop-drop (end - start) start pairs ∙ rest)
-      ∙ ap (λ ps. filter (is_within low high) part ++ ps) (none_from low high (drop end pairs) last.2)
-      ∙ append-nil (filter (is_within low high) part)
-      ∙ all_within low high part (from_take low (end - start) (drop start pairs) first.2) early)
-
-  pub none_between : end ≤ start → [] ≡ filter (is_within low high) pairs
-  none_between back =
-      let sum : end + (start - end) ≡ start = omega arith in
-      sym (from_start ∙ none_from low high (drop start pairs)
-      (subst (λ ps. IsTrue (are_from high ps)) (drop-drop (start - end) end pairs ∙ ap (λ n. drop n pairs) sum) (from_drop high (start - end) (drop end pairs) last.2)))
+pub within_part : (pairs : Pairs) (low high : List ℕ) (start end : ℕ) → IsPlace pairs low start → IsPlace (drop start pairs) high end
+    → take end (drop start pairs) ≡ filter (is_within low high) pairs
+within_part pairs low high start end first last =
+    let rest = drop start pairs in
+    let part = take end rest in
+    sym (ap (filter (is_within low high)) (sym (take-append-drop start pairs)) ∙ filter-append (is_within low high) (take start pairs) rest
+    ∙ ap (λ ps. ps ++ filter (is_within low high) rest) (none_early low low high (take start pairs) (ap is_le (itself low)) first.1)
+    ∙ ap (filter (is_within low high)) (sym (take-append-drop end rest)) ∙ filter-append (is_within low high) part (drop end rest)
+    ∙ ap (λ ps. filter (is_within low high) part ++ ps) (none_from low high (drop end rest) last.2)
+    ∙ append-nil (filter (is_within low high) part)
+    ∙ all_within low high part (from_take low end rest first.2) last.1)
 
 -- ---- what a block answers
 pub empty_is : (pairs : Pairs) (b : Bool) → b ≡ (length pairs == 0) → b ≡ not (has_pairs pairs)
@@ -215,12 +190,6 @@ empty_is (pair ∷ pairs) b is = is ∙ none
 pub has_some : (pairs : Pairs) → 0 < length pairs → IsTrue (has_pairs pairs)
 has_some [] some = absurd (omega arith)
 has_some (pair ∷ pairs) some = refl
-
-pub begins_at : (key : List ℕ) (pairs : Pairs) (at : ℕ) (pair : List ℕ × List ℕ) → at < length pairs → pair ≡ get_or pairs at pair → eq_by_cmp key_cmp key pair.0 ≡ begins_with key (drop at pairs)
-begins_at key pairs at pair within is = ap (λ p. eq_by_cmp key_cmp key p.0) is ∙ ap (begins_with key) (sym (drop_more pairs at pair within))
-
-pub begins_past : (key : List ℕ) (pairs : Pairs) (at : ℕ) → length pairs ≤ at → false ≡ begins_with key (drop at pairs)
-begins_past key pairs at past = ap (begins_with key) (sym (drop_all at pairs past))
 
 pub take_next : (pairs : Pairs) (at : ℕ) (pair : List ℕ × List ℕ) → at < length pairs → pair ≡ get_or pairs at pair → take (at + 1) pairs ≡ take at pairs ++ pair ∷ []
 take_next pairs at pair within is = take_more pairs at pair within ∙ ap (λ p. take at pairs ++ p ∷ []) (sym is)

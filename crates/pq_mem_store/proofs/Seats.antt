@@ -45,7 +45,7 @@ le_less a b c le less =
       | Greater ↦ λ is no. absurd (cc)
     ] refl le
 
-not_from : (key a : List ℕ) → key_cmp a key ≡ Less → is_from key a ≡ false
+pub not_from : (key a : List ℕ) → key_cmp a key ≡ Less → is_from key a ≡ false
 not_from key a less = grind (arith, less, turned key a)
 
 -- ---- the parts of a list that rises

@@ -5,10 +5,11 @@ ghost use Rattle.pq_store.specs.Content.{entry, is_rising, is_within, key_cmp};
 ghost use Rattle.pq_mem_store.specs.Runs.{IsPlace, begins_with, others};
 
 use crate::held::HeldPair;
-use crate::run::{Begins, MOST, Run, begun, cut_at};
+use crate::run::{Begins, MOST, Run, cut_at, middle};
 use pq_base::{List, NoMem};
 use pq_store::{Pair, pair_of};
 use std::alloc::Global;
+use std::cmp::Ordering;
 use std::marker::Model;
 
 /// A block of pairs.
@@ -41,29 +42,35 @@ impl Begins for HeldPair {
     }
 }
 
-// The place of the first pair with no lesser key.
-fn place(held: &[HeldPair], key: &[u8]) -> usize
-    requires { IsTrue (is_rising held.now) }
-    ensures { IsPlace held.now key.now result }
-{
-    let behind = begun(held, key);
-    if behind == 0 {
-        return 0;
-    }
-    if is_at(held, behind - 1, key) {
-        return behind - 1;
-    }
-    behind
+// Where a key belongs in a list of pairs.
+#[derive(Drop)]
+struct KeyPlace {
+    // The place of the first pair with no lesser key.
+    at: usize,
+    // Whether that pair has the key.
+    is_held: bool,
 }
 
-// Whether the pair at this place has the key.
-fn is_at(held: &[HeldPair], at: usize, key: &[u8]) -> bool
-    ensures { result ≡ begins_with key.now (drop at held.now) }
+// Finds the place of a key by halves.
+fn place(held: &[HeldPair], key: &[u8]) -> KeyPlace
+    requires { IsTrue (is_rising held.now) }
+    ensures at { IsPlace held.now key.now result.at }
+    ensures is_held { result.is_held ≡ begins_with key.now (drop result.at held.now) }
 {
-    if at < held.len() {
-        return key.cmp(held[at].key()).is_eq();
+    let mut low = 0;
+    let mut high = held.len();
+    while low < high {
+        let at = middle(low, high);
+        match held[at].key().cmp(key) {
+            Ordering::Less => low = at + 1,
+            Ordering::Equal => return KeyPlace { at, is_held: true },
+            Ordering::Greater => high = at,
+        }
     }
-    false
+    KeyPlace {
+        at: low,
+        is_held: false,
+    }
 }
 
 // The pairs of a range.
@@ -71,12 +78,8 @@ fn between<'a>(held: &'a [HeldPair], low: &[u8], high: &[u8]) -> &'a [HeldPair]
     requires { IsTrue (is_rising held.now) }
     ensures { result.now ≡ filter (is_within low.now high.now) held.now }
 {
-    let start = place(held, low);
-    let end = place(held, high);
-    if start < end {
-        return &held[start..end];
-    }
-    &[]
+    let rest = &held[place(held, low).at..];
+    &rest[..place(rest, high).at]
 }
 
 // Puts copies of pairs behind those that are there, until there are `most` in all.
@@ -105,12 +108,12 @@ fn put_in(held: &mut Vec<HeldPair>, pair: HeldPair) -> Result<(), NoMem>
     ensures ok { OnOk result (held.new.items ≡ put key_cmp pair.0 pair.1 held.old.items) }
     ensures err { OnErr result (held.new.items ≡ held.old.items) }
 {
-    let at = place(held.as_slice(), pair.key());
-    if is_at(held.as_slice(), at, pair.key()) {
-        held[at] = pair;
+    let place = place(held.as_slice(), pair.key());
+    if place.is_held {
+        held[place.at] = pair;
         return Ok(());
     }
-    held.insert(at, pair)?;
+    held.insert(place.at, pair)?;
     Ok(())
 }
 
@@ -119,9 +122,9 @@ fn take_from(held: &mut Vec<HeldPair>, key: &[u8])
     requires { IsTrue (is_rising held.old.items) }
     ensures { held.new.items ≡ others key.now held.old.items }
 {
-    let at = place(held.as_slice(), key);
-    if is_at(held.as_slice(), at, key) {
-        held.remove(at);
+    let place = place(held.as_slice(), key);
+    if place.is_held {
+        held.remove(place.at);
     }
 }
 
@@ -146,9 +149,9 @@ impl Run for Block {
 
     fn find(&self, key: &[u8]) -> Option<&[u8]> {
         let held = self.held.as_slice();
-        let at = place(held, key);
-        if is_at(held, at, key) {
-            return Some(held[at].value());
+        let place = place(held, key);
+        if place.is_held {
+            return Some(held[place.at].value());
         }
         None
     }

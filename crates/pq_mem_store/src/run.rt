@@ -86,8 +86,8 @@ pub(crate) trait Run: Begins + Drop {
         ensures { Self.pairs self.new ≡ others key.now (Self.pairs self.old) };
 }
 
-// The place of the middle element of a part that has one.
-fn middle(low: usize, high: usize) -> usize
+/// The place of the middle element of a part that has one.
+pub(crate) fn middle(low: usize, high: usize) -> usize
     requires { low < high }
     ensures low { low ≤ result }
     ensures high { result < high }
