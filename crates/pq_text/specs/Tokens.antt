@@ -1,5 +1,5 @@
 -- The tokens of a text: the longest first, white bytes and comments left out.
-use Rattle.std.specs.Prelude.{ℕ, zero, suc, ◌+◌, ◌-◌, ◌<◌, ◌≤◌, Bool, true, IsTrue, nat_lt, List, [], ◌∷◌, length, slice_range, Option, Some, None, if◌then◌else◌, min}
+use Rattle.std.specs.Prelude.{ℕ, zero, suc, ◌+◌, ◌-◌, ◌<◌, ◌≤◌, Bool, true, IsTrue, nat_lt, List, [], ◌∷◌, length, drop, slice_range, Option, Some, None, if◌then◌else◌, min}
 use Rattle.pq_text.specs.Forms.{Form, LeftOut, Of, form_at, is_word_form, is_number, is_text, is_whole_mark}
 use Rattle.pq_text.specs.declared.token.Kind.{Kind}
 use Rattle.pq_text.specs.declared.token.Kind.TheVariants as kind
@@ -51,6 +51,11 @@ tokens_from zero at (b ∷ bs) = put_before at (front_of b bs) (tokens_from ((fr
 -- the tokens of a text
 abbrev pub tokens_of : List ℕ → List Token
 tokens_of text = tokens_from 0 0 text
+
+-- the first token, if there is one, and those behind it
+abbrev pub with_behind : List ℕ → Option Token → List Token
+with_behind text None = []
+with_behind text (Some t) = t ∷ tokens_from 0 t.to (drop t.to text)
 
 -- the spans stand between two places, one behind the other, and none is empty
 abbrev pub InOrder : ℕ → ℕ → List Token → Type 0

@@ -15,7 +15,7 @@ mod state;
 mod token;
 
 pub use piece::Piece;
-pub use scan::tokens;
+pub use scan::{next_token, tokens};
 pub use script::{CutScript, cut_script};
 pub use splitter::Splitter;
 pub use token::{Kind, Token};

@@ -1,10 +1,10 @@
 //! The tokens of a text, found in one pass.
-ghost use Rattle.std.specs.Prelude.{◌≡◌, ◌+◌, ◌-◌, ◌<◌, ◌≤◌, ◌==◌, ◌^◌, length, drop, take_while, not, IfOk, IfSome, if◌then◌else◌};
+ghost use Rattle.std.specs.Prelude.{◌≡◌, ◌+◌, ◌-◌, ◌<◌, ◌≤◌, ◌==◌, ◌^◌, length, drop, take_while, slice_index, not, IfOk, IfSome, if◌then◌else◌};
 ghost use Rattle.std.specs.Char.{is_ascii_digit};
 ghost use Rattle.pq_text.specs.Bytes.{next_is, is_word_byte, is_double_mark};
 ghost use Rattle.pq_text.specs.Forms.{text_end};
 ghost use Rattle.pq_text.specs.Scanning.{first_token, left_out};
-ghost use Rattle.pq_text.specs.Tokens.{text_limit, char_len, tokens_of, InOrder, HaveForms};
+ghost use Rattle.pq_text.specs.Tokens.{text_limit, char_len, tokens_from, tokens_of, with_behind, InOrder, HaveForms};
 
 use crate::byte::{double_mark, letter, mark, white, word_byte};
 use crate::token::{Kind, Token};
@@ -156,6 +156,46 @@ fn token_room(text: &[u8]) -> usize
     (text.len() / 2 + 1).min(64)
 }
 
+/// Where the next token begins from a place on, or the end of the text.
+fn token_start(text: &[u8], from: usize) -> usize
+    requires limit { length text.now ≤ text_limit }
+    requires within { from ≤ length text.now }
+    ensures same { tokens_from 0 from (drop from text.now) ≡ tokens_from 0 result (drop result text.now) }
+    ensures ahead { from ≤ result }
+    ensures within { result ≤ length text.now }
+    ensures stays { result < length text.now
+        → left_out (slice_index text.now result) (drop (result + 1) text.now) ≡ 0 }
+{
+    let mut at = from;
+    'left: while at < text.len() {
+        let left = left_count(text[at], after(text, at));
+        if left == 0 {
+            return at;
+        }
+        at += left;
+    }
+    at
+}
+
+/// The first token of a text from a place on.
+pub fn next_token(text: &[u8], from: usize) -> Option<Token>
+    requires limit { length text.now ≤ text_limit }
+    requires within { from ≤ length text.now }
+    ensures found { tokens_from 0 from (drop from text.now) ≡ with_behind text.now result }
+    ensures ahead { IfSome result (λ t. (from ≤ t.from) × (t.from < t.to) × (t.to ≤ length text.now)) }
+{
+    let at = token_start(text, from);
+    if at == text.len() {
+        return None;
+    }
+    let (kind, len) = first(text[at], after(text, at));
+    Some(Token {
+        kind,
+        from: at as u32,
+        to: (at + len) as u32,
+    })
+}
+
 fn scan(alloc: Global, text: &[u8]) -> Result<List<Token>, NoMem>
     requires { length text.now ≤ text_limit }
     ensures found { IfOk result (λ found. found ≡ tokens_of text.now) }
@@ -164,24 +204,9 @@ fn scan(alloc: Global, text: &[u8]) -> Result<List<Token>, NoMem>
 {
     let mut tokens = List::with_room(alloc, token_room(text))?;
     let mut at = 0;
-    'tokens: while at < text.len() {
-        let byte = text[at];
-        let rest = after(text, at);
-        let left = left_count(byte, rest);
-        if left > 0 {
-            at += left;
-            continue;
-        }
-        let (kind, len) = first(byte, rest);
-        tokens.push(
-            alloc,
-            Token {
-                kind,
-                from: at as u32,
-                to: (at + len) as u32,
-            },
-        )?;
-        at += len;
+    'tokens: while let Some(token) = next_token(text, at) {
+        tokens.push(alloc, token)?;
+        at = token.to as usize;
     }
     Ok(tokens)
 }
