@@ -12,7 +12,7 @@ use Rattle.pq_grammar.proofs.Options.{always}
 use Rattle.pq_grammar.proofs.Whole.{whole_found, whole_again, whole_place}
 use Rattle.pq_text.specs.declared.token.Token.{Token}
 use Rattle.pq_shape.specs.Shapes.{shapes_of}
-use Rattle.pq_shape.specs.declared.shape.Shape.{Shape}
+use Rattle.pq_shape.specs.Shape.{Shape}
 use Rattle.pq_def_read.specs.Grammar.{Spells}
 use Rattle.pq_shape.specs.Faults.{offset_at, IsRefusalOf, IsNoMem}
 use Rattle.pq_def_read.specs.Faults.{IsFault}

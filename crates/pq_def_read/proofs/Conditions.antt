@@ -20,8 +20,8 @@ use Rattle.pq_shape.proofs.Operators.{op_made, op_made_reads, others, op_reads, 
 use Rattle.pq_shape.proofs.Tokens.{word_reads, soft_reads, soft_passes, mark_reads, name_reads, number_reads, constant_reads, value_reads, comma_separated}
 use Rattle.pq_shape.specs.declared.keyword.TheConstants.{AND}
 use Rattle.pq_shape.specs.declared.mark.TheConstants.{COMMA, EQUAL}
-use Rattle.pq_shape.specs.declared.shape.Shape.{Shape}
-use Rattle.pq_shape.specs.declared.shape.Shape.TheVariants as shape
+use Rattle.pq_shape.specs.Shape.{Shape}
+use Rattle.pq_shape.specs.Shape as shape
 use Rattle.pq_shape.specs.declared.soft.Soft.{Soft}
 use Rattle.pq_shape.specs.declared.soft.Soft.TheVariants as soft_word
 use Rattle.pq_def_read.specs.Grammar.{set_to, set, assign, key, compare, null_test, comparison, cond, conds, conditions}

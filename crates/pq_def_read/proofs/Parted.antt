@@ -10,7 +10,7 @@ use Rattle.pq_grammar.proofs.Loops.{many_steps, many_fails}
 use Rattle.pq_grammar.proofs.Repeats.{many_stops, cons}
 use Rattle.pq_schema.specs.declared.definition.LimitDef.{LimitDef}
 use Rattle.pq_schema.specs.declared.definition.ForeignDef.{ForeignDef}
-use Rattle.pq_shape.specs.declared.shape.Shape.{Shape}
+use Rattle.pq_shape.specs.Shape.{Shape}
 use Rattle.pq_def_read.specs.Definitions.{limits_of, foreign_of, parted_constraints, with_constraint}
 use Rattle.pq_def_read.specs.declared.definition.Constraint.{Constraint}
 use Rattle.pq_def_read.specs.declared.definition.Constraint.TheVariants as constraint

@@ -12,8 +12,8 @@ use Rattle.pq_shape.specs.Front.{is_word_shape, is_mark_shape, is_name_shape, is
 use Rattle.pq_shape.specs.Parts.{word, soft, mark, comma, name, number}
 use Rattle.pq_shape.proofs.Tokens.{word_reads, soft_reads, soft_passes, mark_reads, name_reads, number_reads, comma_separated}
 use Rattle.pq_shape.specs.declared.soft.Soft.TheVariants as soft_word
-use Rattle.pq_shape.specs.declared.shape.Shape.{Shape}
-use Rattle.pq_shape.specs.declared.shape.Shape.TheVariants as shape
+use Rattle.pq_shape.specs.Shape.{Shape}
+use Rattle.pq_shape.specs.Shape as shape
 use Rattle.pq_shape.specs.declared.keyword.TheConstants.{BOOL, CARDINALITY, FOREIGN, INT, KEY, LIMIT, REFERENCES, TEXT}
 use Rattle.pq_shape.specs.declared.mark.TheConstants.{CLOSE, COMMA, OPEN}
 use Rattle.pq_schema.specs.declared.definition.LimitDef.{LimitDef}

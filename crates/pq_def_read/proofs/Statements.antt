@@ -13,8 +13,8 @@ use Rattle.pq_shape.specs.Front.{is_word_shape, is_mark_shape, is_constant, is_s
 use Rattle.pq_shape.specs.Parts.{word, soft, mark, comma, name, text, a_value}
 use Rattle.pq_shape.proofs.Tokens.{word_reads, soft_reads, soft_passes, mark_reads, name_reads, text_reads, value_reads, value_opens, comma_separated}
 use Rattle.pq_shape.specs.declared.soft.Soft.TheVariants as soft_word
-use Rattle.pq_shape.specs.declared.shape.Shape.{Shape}
-use Rattle.pq_shape.specs.declared.shape.Shape.TheVariants as shape
+use Rattle.pq_shape.specs.Shape.{Shape}
+use Rattle.pq_shape.specs.Shape as shape
 use Rattle.pq_shape.specs.declared.keyword.TheConstants.{AFTER, AS, CREATE, DELETE, EXPLAIN, INSERT, PREPARE, RUN, SELECT, SHOW, TABLE, UPDATE}
 use Rattle.pq_shape.specs.declared.mark.TheConstants.{CLOSE, COMMA, OPEN, SEMICOLON}
 use Rattle.pq_def_read.specs.Definitions.{table_definition_at, counter_definition_at, alter_at, statement_end_at}

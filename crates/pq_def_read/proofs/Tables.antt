@@ -10,8 +10,8 @@ use Rattle.pq_shape.specs.Front.{is_mark_shape, is_name_shape, is_soft_shape, so
 use Rattle.pq_shape.specs.Parts.{word, soft, mark, comma, name, a_value}
 use Rattle.pq_shape.proofs.Tokens.{word_reads, soft_reads, mark_reads, name_reads, value_reads}
 use Rattle.pq_shape.specs.declared.soft.Soft.TheVariants as soft_word
-use Rattle.pq_shape.specs.declared.shape.Shape.{Shape}
-use Rattle.pq_shape.specs.declared.shape.Shape.TheVariants as shape
+use Rattle.pq_shape.specs.Shape.{Shape}
+use Rattle.pq_shape.specs.Shape as shape
 use Rattle.pq_shape.specs.declared.keyword.TheConstants.{KEY, PRIMARY, TABLE}
 use Rattle.pq_shape.specs.declared.mark.TheConstants.{CLOSE, COMMA, OPEN, SEMICOLON}
 use Rattle.pq_schema.specs.declared.definition.ColumnDef.{ColumnDef}

@@ -13,8 +13,8 @@ use Rattle.pq_shape.specs.Parts.{word, mark, comma, name, a_value}
 use Rattle.pq_shape.proofs.Tokens.{word_reads, mark_reads, name_reads, value_reads, comma_separated}
 use Rattle.pq_shape.specs.declared.keyword.TheConstants.{DELETE, FROM, INSERT, INTO, SET, UPDATE, VALUES, WHERE}
 use Rattle.pq_shape.specs.declared.mark.TheConstants.{CLOSE, COMMA, OPEN}
-use Rattle.pq_shape.specs.declared.shape.Shape.{Shape}
-use Rattle.pq_shape.specs.declared.shape.Shape.TheVariants as shape
+use Rattle.pq_shape.specs.Shape.{Shape}
+use Rattle.pq_shape.specs.Shape as shape
 use Rattle.pq_def_read.specs.Definitions.{cols_at}
 use Rattle.pq_def_read.specs.Grammar.{cols, insert, set, update, delete, write}
 use Rattle.pq_def_read.specs.Writes.{values_clause_at, sets_at, key_clause_at, conditions_at, insert_at, update_at, delete_at, write_at, writes_at}

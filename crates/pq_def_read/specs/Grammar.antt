@@ -17,7 +17,7 @@ use Rattle.pq_shape.specs.Parts.{word, soft, mark, comma, name, number, text, a_
 use Rattle.pq_shape.specs.declared.keyword.TheConstants.{AFTER, AND, AS, BOOL, CARDINALITY, CREATE, DELETE, EXPLAIN, FOREIGN, FROM, INSERT, INT, INTO, KEY, LIMIT, PREPARE, PRIMARY, REFERENCES, RUN, SELECT, SET, SHOW, TABLE, TEXT, UPDATE, VALUES, WHERE}
 use Rattle.pq_shape.specs.declared.mark.TheConstants.{CLOSE, EQUAL, OPEN, SEMICOLON}
 use Rattle.pq_shape.specs.declared.soft.Soft.TheVariants as soft_word
-use Rattle.pq_shape.specs.declared.shape.Shape.{Shape}
+use Rattle.pq_shape.specs.Shape.{Shape}
 use Rattle.pq_def_read.specs.Definitions.{int_kind, bool_kind, text_kind, parted_constraints}
 use Rattle.pq_def_read.specs.declared.definition.Constraint.{Constraint}
 use Rattle.pq_def_read.specs.declared.definition.Constraint.TheVariants as constraint

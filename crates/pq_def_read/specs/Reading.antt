@@ -8,7 +8,7 @@ use Rattle.pq_shape.specs.Shapes.{shapes_of}
 use Rattle.pq_shape.specs.declared.keyword.TheConstants.{AFTER, AS, CREATE, EXPLAIN, PREPARE, RUN, SELECT, SHOW, TABLE}
 use Rattle.pq_shape.specs.declared.mark.TheConstants.{CLOSE, COMMA, OPEN, SEMICOLON}
 use Rattle.pq_shape.specs.declared.soft.Soft.TheVariants as soft_word
-use Rattle.pq_shape.specs.declared.shape.Shape.{Shape}
+use Rattle.pq_shape.specs.Shape.{Shape}
 use Rattle.pq_def_read.specs.Definitions.{table_definition_at, counter_definition_at, alter_at, statement_end_at}
 use Rattle.pq_def_read.specs.Writes.{values_clause_at, write_at, writes_at}
 use Rattle.pq_def_read.specs.declared.statement.Statement.{Statement}

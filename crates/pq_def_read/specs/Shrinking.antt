@@ -8,7 +8,7 @@ use Rattle.pq_shape.specs.Front.{is_word_shape, is_mark_shape, is_soft_shape, wo
 use Rattle.pq_shape.specs.Operators.{op_at, op_keeps}
 use Rattle.pq_shape.specs.declared.keyword.TheConstants.{AND, DELETE, FROM, INSERT, INTO, SET, UPDATE, VALUES, WHERE}
 use Rattle.pq_shape.specs.declared.mark.TheConstants.{CLOSE, COMMA, EQUAL, OPEN}
-use Rattle.pq_shape.specs.declared.shape.Shape.{Shape}
+use Rattle.pq_shape.specs.Shape.{Shape}
 use Rattle.pq_shape.specs.declared.soft.Soft.{Soft}
 use Rattle.pq_shape.specs.declared.soft.Soft.TheVariants as soft_word
 use Rattle.pq_def_read.specs.Definitions.{names_at, cols_at}

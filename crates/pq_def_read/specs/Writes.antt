@@ -10,7 +10,7 @@ use Rattle.pq_shape.specs.Operators.{op_at}
 use Rattle.pq_shape.specs.declared.keyword.TheConstants.{AND, DELETE, FROM, INSERT, INTO, SET, UPDATE, VALUES, WHERE}
 use Rattle.pq_shape.specs.declared.mark.TheConstants.{CLOSE, COMMA, EQUAL, OPEN}
 use Rattle.pq_shape.specs.declared.soft.Soft.TheVariants as soft_word
-use Rattle.pq_shape.specs.declared.shape.Shape.{Shape}
+use Rattle.pq_shape.specs.Shape.{Shape}
 use Rattle.pq_def_read.specs.Definitions.{cols_at}
 use Rattle.pq_def_read.specs.declared.write.Assign.{Assign}
 use Rattle.pq_def_read.specs.declared.write.CondDef.{CondDef}

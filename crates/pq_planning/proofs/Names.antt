@@ -5,9 +5,9 @@ use Rattle.pq_grammar.specs.Language.{◌⋅◌, one}
 use Rattle.pq_text.specs.declared.token.Token.{Token}
 use Rattle.pq_text.specs.Tokens.{tokens_of}
 use Rattle.pq_shape.specs.Shapes.{shape_of, shapes_of}
-use Rattle.pq_shape.specs.declared.shape.Shape.{Shape}
+use Rattle.pq_shape.specs.Shape.{Shape}
 use Rattle.pq_shape.specs.declared.keyword.TheConstants.{AS, EXPLAIN, PREPARE}
-use Rattle.pq_shape.specs.declared.shape.Shape.TheVariants as shape
+use Rattle.pq_shape.specs.Shape as shape
 use Rattle.pq_def_read.specs.Grammar.{Spells}
 use Rattle.pq_def_read.specs.Reading.{statement_of}
 use Rattle.pq_def_read.specs.declared.statement.Statement.{Statement}

@@ -12,7 +12,7 @@ use Rattle.pq_grammar.proofs.Whole.{whole_found, whole_again, whole_place}
 use Rattle.pq_text.specs.declared.token.Token.{Token}
 use Rattle.pq_shape.specs.Shapes.{shapes_of}
 use Rattle.pq_shape.specs.Faults.{offset_at, IsRefusalOf, IsNoMem, IsFaultFrom}
-use Rattle.pq_shape.specs.declared.shape.Shape.{Shape}
+use Rattle.pq_shape.specs.Shape.{Shape}
 use Rattle.pq_query_read.specs.Grammar.{SpellsSelect}
 use Rattle.pq_query_read.specs.Reading.{select_at, select_read_at, select_of}
 use Rattle.pq_query_read.specs.declared.select.SelectDef.{SelectDef}

@@ -12,8 +12,8 @@ use Rattle.pq_grammar.proofs.Choices.{made_reads, choice_reads, any_of, not_firs
 use Rattle.pq_shape.specs.Front.{is_word_shape, is_mark_shape, is_name_shape, word_at, mark_at, name_at, number_at}
 use Rattle.pq_shape.specs.Parts.{word, mark, comma, name, number}
 use Rattle.pq_shape.proofs.Tokens.{word_reads, mark_reads, name_reads, number_reads}
-use Rattle.pq_shape.specs.declared.shape.Shape.{Shape}
-use Rattle.pq_shape.specs.declared.shape.Shape.TheVariants as shape
+use Rattle.pq_shape.specs.Shape.{Shape}
+use Rattle.pq_shape.specs.Shape as shape
 use Rattle.pq_grammar.specs.Reader.{nothing_at}
 use Rattle.pq_grammar.proofs.Readers.{same_reads}
 use Rattle.pq_grammar.proofs.Options.{nothing_reads}

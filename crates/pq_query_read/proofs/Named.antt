@@ -10,8 +10,8 @@ use Rattle.pq_schema.specs.Names.{IsName}
 use Rattle.pq_shape.specs.Numbers.{digits_number}
 use Rattle.pq_shape.specs.Parts.{name as a_name}
 use Rattle.pq_shape.specs.Shapes.{shape_of, shapes_of, kind_shape, utf8_text, between_quotes, text_shape, number_or_other}
-use Rattle.pq_shape.specs.declared.shape.Shape.{Shape}
-use Rattle.pq_shape.specs.declared.shape.Shape.TheVariants as shape
+use Rattle.pq_shape.specs.Shape.{Shape}
+use Rattle.pq_shape.specs.Shape as shape
 use Rattle.pq_query_read.proofs.Names.{name_of_word}
 use Rattle.pq_query_read.proofs.Within.{GivesWithin}
 

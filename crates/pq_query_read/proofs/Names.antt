@@ -16,7 +16,7 @@ use Rattle.pq_schema.specs.Names.{is_word as is_name_word}
 use Rattle.pq_text.specs.Bytes.{is_letter, is_word_byte}
 use Rattle.pq_text.specs.Forms.{is_word_form}
 use Rattle.pq_shape.specs.Shapes.{word_place, lowercase_bytes, utf8_text, named_shape, name_shape, keyword_or, word_shape}
-use Rattle.pq_shape.specs.declared.shape.Shape.TheVariants as shape
+use Rattle.pq_shape.specs.Shape as shape
 
 -- what a name is
 record NameParts (name : List ℕ) : Type 0 where

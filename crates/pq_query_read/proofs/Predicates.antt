@@ -17,8 +17,8 @@ use Rattle.pq_shape.specs.Operators.{operator, op_at}
 use Rattle.pq_shape.specs.Parts.{mark, soft, name, number, a_constant}
 use Rattle.pq_shape.proofs.Operators.{others, op_reads, IsOther, others_is, others_from, others_marked, others_not_equal}
 use Rattle.pq_shape.proofs.Tokens.{soft_reads, soft_passes, mark_reads, name_reads, number_reads, constant_reads, constant_opens}
-use Rattle.pq_shape.specs.declared.shape.Shape.{Shape}
-use Rattle.pq_shape.specs.declared.shape.Shape.TheVariants as shape
+use Rattle.pq_shape.specs.Shape.{Shape}
+use Rattle.pq_shape.specs.Shape as shape
 use Rattle.pq_base.specs.declared.op.Op.{Op}
 use Rattle.pq_base.specs.declared.op.Op.TheVariants as op
 use Rattle.pq_shape.specs.declared.mark.TheConstants.{CLOSE_SQUARE, COLON, EQUAL, OPEN_SQUARE, POINT}

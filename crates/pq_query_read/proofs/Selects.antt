@@ -11,8 +11,8 @@ use Rattle.pq_grammar.proofs.Choices.{made_reads, choice_reads, begins_with, any
 use Rattle.pq_shape.specs.Front.{is_word_shape, is_mark_shape, is_name_shape, word_at, mark_at}
 use Rattle.pq_shape.specs.Parts.{word, mark, comma}
 use Rattle.pq_shape.proofs.Tokens.{word_reads, mark_reads}
-use Rattle.pq_shape.specs.declared.shape.Shape.{Shape}
-use Rattle.pq_shape.specs.declared.shape.Shape.TheVariants as shape
+use Rattle.pq_shape.specs.Shape.{Shape}
+use Rattle.pq_shape.specs.Shape as shape
 use Rattle.pq_shape.specs.Front.{is_between, between_at}
 use Rattle.pq_shape.specs.declared.between.Between.TheVariants as between
 use Rattle.pq_shape.specs.declared.keyword.TheConstants.{AND, BY, FROM, JOIN, LIMIT, ORDER, PAGINATE, SELECT, WHERE}

@@ -26,8 +26,8 @@ use Rattle.pq_shape.specs.Parts.{word, name as a_name, a_constant}
 use Rattle.pq_base.specs.Words.{keywords, uppercase_byte}
 use Rattle.pq_shape.specs.Shapes.{shape_of, shapes_of, kind_shape, utf8_text, between_quotes, text_shape, number_or_other, keyword_or, named_shape, name_shape, word_place, lowercase_bytes, mark_code}
 use Rattle.pq_shape.specs.declared.keyword.TheConstants.{AND, FALSE, TRUE}
-use Rattle.pq_shape.specs.declared.shape.Shape.{Shape}
-use Rattle.pq_shape.specs.declared.shape.Shape.TheVariants as shape
+use Rattle.pq_shape.specs.Shape.{Shape}
+use Rattle.pq_shape.specs.Shape as shape
 use Rattle.pq_schema.specs.Names.{IsName}
 use Rattle.pq_base.specs.Comparing.{is_null_test}
 use Rattle.pq_base.specs.declared.op.Op.{Op}

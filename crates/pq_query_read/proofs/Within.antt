@@ -2,7 +2,7 @@
 use Rattle.std.proofs.Common.{List, [], ◌∷◌, ◌++◌, subst}
 use Rattle.std.specs.List.{AllByRecursion}
 use Rattle.pq_grammar.specs.Language.{◌⋅◌, each, separated_by}
-use Rattle.pq_shape.specs.declared.shape.Shape.{Shape}
+use Rattle.pq_shape.specs.Shape.{Shape}
 
 module _ (Q : Shape → Type 0) where
   split : (a b : List Shape) → AllByRecursion Q (a ++ b) → AllByRecursion Q a × AllByRecursion Q b

@@ -7,7 +7,7 @@ use Rattle.pq_base.specs.declared.refusal.Stopped.TheVariants.{Refused, NoMem}
 use Rattle.pq_text.specs.declared.token.Token.{Token}
 use Rattle.pq_shape.specs.Faults.{offset_at, IsFaultFrom}
 use Rattle.pq_shape.specs.Shapes.{shapes_of}
-use Rattle.pq_shape.specs.declared.shape.Shape.{Shape}
+use Rattle.pq_shape.specs.Shape.{Shape}
 use Rattle.pq_schema.specs.Schema.{Schema}
 use Rattle.pq_schema.specs.declared.query.Query.{Query}
 use Rattle.pq_query_read.specs.Grammar.{SpellsSelect}

@@ -14,7 +14,7 @@ use Rattle.pq_shape.specs.declared.keyword.TheConstants.{AND, AS, ASC, BY, DESC,
 use Rattle.pq_shape.specs.declared.mark.TheConstants.{CLOSE_SQUARE, COLON, COMMA, EQUAL, OPEN_SQUARE, POINT, SEMICOLON, STAR}
 use Rattle.pq_base.specs.declared.value.Value.TheVariants as value
 use Rattle.pq_shape.specs.declared.soft.Soft.TheVariants as soft_word
-use Rattle.pq_shape.specs.declared.shape.Shape.{Shape}
+use Rattle.pq_shape.specs.Shape.{Shape}
 use Rattle.pq_query_read.specs.declared.select.ItemDef.{ItemDef}
 use Rattle.pq_query_read.specs.declared.select.OperandDef.{OperandDef}
 use Rattle.pq_query_read.specs.declared.select.OperandDef.TheVariants as operand

@@ -22,8 +22,8 @@ use Rattle.pq_text.proofs.TextEnds.{text_other_at, text_double_at, text_ends_at,
 use Rattle.pq_shape.specs.Shapes.{shape_of, shapes_of, kind_shape, word_shape, number_or_other, utf8_text, undoubled_quotes, between_quotes}
 use Rattle.pq_shape.specs.Shapes.{text_shape as quoted_shape}
 use Rattle.pq_shape.specs.Numbers.{digits_number}
-use Rattle.pq_shape.specs.declared.shape.Shape.{Shape}
-use Rattle.pq_shape.specs.declared.shape.Shape.TheVariants as shape
+use Rattle.pq_shape.specs.Shape.{Shape}
+use Rattle.pq_shape.specs.Shape as shape
 use Rattle.pq_print.specs.Values.{doubled_quotes, quoted_text}
 use Rattle.pq_reread.specs.Printed.{is_quote}
 

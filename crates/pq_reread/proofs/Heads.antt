@@ -3,8 +3,8 @@ use Rattle.std.proofs.Common.{◌≡◌, ℕ, List, ◌∷◌, ◌++◌, drop, s
 use Rattle.pq_grammar.specs.Language.{◌⋅◌, anything}
 use Rattle.pq_shape.specs.Parts.{word, name as a_name}
 use Rattle.pq_shape.specs.declared.keyword.TheConstants.{AS, PREPARE}
-use Rattle.pq_shape.specs.declared.shape.Shape.{Shape}
-use Rattle.pq_shape.specs.declared.shape.Shape.TheVariants as shape
+use Rattle.pq_shape.specs.Shape.{Shape}
+use Rattle.pq_shape.specs.Shape as shape
 
 -- it has three tokens
 pub head_and_rest : (name : List ℕ) (S : List Shape → Type 0) (w : List Shape) → (word PREPARE ⋅ a_name name ⋅ word AS ⋅ S) w → (word PREPARE ⋅ a_name name ⋅ word AS ⋅ anything) w × S (drop 3 w)

@@ -11,7 +11,7 @@ use Rattle.pq_shape.specs.Parts.{word, soft}
 use Rattle.pq_shape.specs.Shapes.{word_place, word_shape, keyword_or, name_shape, named_shape}
 use Rattle.pq_shape.specs.declared.keyword.TheConstants.{FALSE, TRUE}
 use Rattle.pq_shape.specs.declared.soft.Soft.TheVariants as soft_word
-use Rattle.pq_shape.specs.declared.shape.Shape.TheVariants as shape
+use Rattle.pq_shape.specs.Shape as shape
 use Rattle.pq_query_read.proofs.Names.{checked_name}
 use Rattle.pq_reread.specs.Printed.{joins_none}
 use Rattle.pq_reread.proofs.Prints.{Prints, word_prints}

@@ -13,7 +13,7 @@ use Rattle.pq_schema.specs.declared.definition.TableDef.{TableDef}
 use Rattle.pq_schema.specs.Names.{IsName, IsKind, IsColumnDef, IsLimitDef, IsForeignDef, IsTableDef, IsAlterDef, IsCounterDef}
 use Rattle.pq_shape.specs.Parts.{comma, name as a_name}
 use Rattle.pq_shape.specs.Shapes.{shapes_of}
-use Rattle.pq_shape.specs.declared.shape.Shape.{Shape}
+use Rattle.pq_shape.specs.Shape.{Shape}
 use Rattle.pq_def_read.specs.Definitions.{limits_of, foreign_of}
 use Rattle.pq_def_read.specs.Grammar.{cols, kind as a_kind, column, limit, foreign, a_constraint, constraints, create, alter, counter as a_counter, Spells}
 use Rattle.pq_def_read.specs.Reading.{statement_at, read_at, statement_of}

@@ -6,7 +6,7 @@ use Rattle.pq_text.specs.Bytes.{is_mark, is_double_mark}
 use Rattle.pq_text.specs.Tokens.{tokens_of}
 use Rattle.pq_grammar.specs.Language.{◌⋅◌}
 use Rattle.pq_shape.specs.Shapes.{shapes_of, word_shape}
-use Rattle.pq_shape.specs.declared.shape.Shape.{Shape}
+use Rattle.pq_shape.specs.Shape.{Shape}
 use Rattle.pq_reread.specs.Printed.{Piece, piece_text, piece_shapes, printed_pieces, shapes_printed, joins_none, joins, IsPiece, ArePieces}
 use Rattle.pq_reread.specs.Printed.Piece.{Word, Number, Text, Mark, Space}
 use Rattle.pq_reread.proofs.Prints.{Prints, join, respelled, nothing_prints, behind, space, mark_prints, two_marks_print, word_prints, signed_prints, text_prints, whole}

@@ -22,8 +22,8 @@ use Rattle.pq_grammar.specs.Language.{◌⋅◌, nothing, one, each, separated_b
 use Rattle.pq_shape.specs.Shapes.{shapes_of, word_shape, number_or_other}
 use Rattle.pq_shape.specs.Numbers.{digits_after, fitting_number, digits_number}
 use Rattle.pq_shape.specs.Parts.{mark, number, text}
-use Rattle.pq_shape.specs.declared.shape.Shape.{Shape}
-use Rattle.pq_shape.specs.declared.shape.Shape.TheVariants as shape
+use Rattle.pq_shape.specs.Shape.{Shape}
+use Rattle.pq_shape.specs.Shape as shape
 use Rattle.pq_shape.proofs.Digits.{fitting_pos, fitting_neg}
 use Rattle.pq_print.specs.Lists.{each_after, separate_texts as separated_texts}
 use Rattle.pq_print.specs.Values.{doubled_quotes, quoted_text}

@@ -37,7 +37,7 @@ use Rattle.pq_grammar.proofs.Lists.{regroup}
 use Rattle.pq_text.specs.Bytes.{is_letter, is_word_byte, is_double_mark}
 use Rattle.pq_shape.specs.Parts.{word, mark, comma, name as a_name, number, a_constant}
 use Rattle.pq_shape.specs.declared.keyword.TheConstants.{AND, AS, BY, DESC, FROM, LIMIT, ORDER, PAGINATE, PREPARE, SELECT, WHERE}
-use Rattle.pq_shape.specs.declared.shape.Shape.{Shape}
+use Rattle.pq_shape.specs.Shape.{Shape}
 use Rattle.pq_print.specs.Canonical.{absent_column, column_name, ref_text, relation_text, op_text, operand_text, pred_text, order_text, stop_text, select_text, query_text}
 use Rattle.pq_print.specs.Lists.{separate_texts as separated_texts, clause}
 use Rattle.pq_print.specs.Report.{dir_text}

@@ -25,8 +25,8 @@ use Rattle.pq_text.specs.Bytes.{is_word_byte}
 use Rattle.pq_text.specs.Tokens.{tokens_of}
 use Rattle.pq_shape.specs.Parts.{comma, name as a_name, number}
 use Rattle.pq_shape.specs.declared.keyword.TheConstants.{BOOL, CARDINALITY, CREATE, FOREIGN, INT, KEY, LIMIT, PRIMARY, REFERENCES, TABLE, TEXT}
-use Rattle.pq_shape.specs.declared.shape.Shape.{Shape}
-use Rattle.pq_shape.specs.declared.shape.Shape.TheVariants as shape
+use Rattle.pq_shape.specs.Shape.{Shape}
+use Rattle.pq_shape.specs.Shape as shape
 use Rattle.pq_def_read.specs.Definitions.{int_kind, bool_kind, text_kind, limits_of, foreign_of}
 use Rattle.pq_def_read.specs.Grammar.{cols, kind as a_kind, nullable, text_size_tokens as sized_text, column, limit, foreign, a_constraint, constraints, create}
 use Rattle.pq_def_read.specs.Reading.{statement_of}

@@ -9,8 +9,8 @@ use Rattle.pq_grammar.proofs.Whole.{whole_found, whole_again, whole_place}
 use Rattle.pq_shape.specs.Parts.{word, name, mark}
 use Rattle.pq_shape.specs.declared.mark.TheConstants.{SEMICOLON}
 use Rattle.pq_shape.specs.declared.keyword.TheConstants.{AS, EXPLAIN, FROM, PREPARE, SELECT}
-use Rattle.pq_shape.specs.declared.shape.Shape.{Shape}
-use Rattle.pq_shape.specs.declared.shape.Shape.TheVariants as shape
+use Rattle.pq_shape.specs.Shape.{Shape}
+use Rattle.pq_shape.specs.Shape as shape
 use Rattle.pq_def_read.specs.Grammar.{Spells}
 use Rattle.pq_def_read.specs.Reading.{statement_at, read_at}
 use Rattle.pq_def_read.specs.declared.statement.Statement.{Statement}

@@ -6,8 +6,8 @@ use Rattle.std.specs.Char.{is_ascii_digit}
 use Rattle.pq_text.specs.Bytes.{next_is, is_word_byte, is_double_mark}
 use Rattle.pq_text.specs.Forms.{is_word_form, is_whole_mark}
 use Rattle.pq_shape.specs.Shapes.{word_shape, mark_code}
-use Rattle.pq_shape.specs.declared.shape.Shape.{Shape}
-use Rattle.pq_shape.specs.declared.shape.Shape.TheVariants as shape
+use Rattle.pq_shape.specs.Shape.{Shape}
+use Rattle.pq_shape.specs.Shape as shape
 use Rattle.pq_print.specs.Values.{quoted_text}
 
 pub data Piece : Type 0 where

@@ -4,7 +4,7 @@ use Rattle.pq_grammar.specs.Language.{◌⋅◌}
 use Rattle.pq_grammar.specs.Reader.{◌>>=◌}
 use Rattle.pq_shape.specs.Parts.{word, name}
 use Rattle.pq_shape.specs.declared.keyword.TheConstants.{AS, EXPLAIN, PREPARE}
-use Rattle.pq_shape.specs.declared.shape.Shape.{Shape}
+use Rattle.pq_shape.specs.Shape.{Shape}
 use Rattle.pq_def_read.specs.Grammar.{Spells}
 use Rattle.pq_def_read.specs.Reading.{read_at}
 use Rattle.pq_def_read.specs.declared.statement.Statement.{Statement}

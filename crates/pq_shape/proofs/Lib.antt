@@ -3,3 +3,4 @@ pub mod Made
 pub mod Digits
 pub mod Tokens
 pub mod Operators
+pub mod Passing

@@ -1,12 +1,17 @@
 -- Names and texts are of UTF-8 bytes.
-use Rattle.std.proofs.Common.{◌≡◌, ℕ, Bool, true, false, cond, List, [], ◌∷◌, ◌++◌, ◌||◌, ◌==◌, length, drop, get_or, ◌+◌, ◌<◌, ◌≤◌, add-one, Option, Some, None, refl, ap}
-use Rattle.std.specs.Prelude.{IsUtf8, MatchOption}
+use Rattle.std.proofs.Common.{◌≡◌, ℕ, Bool, true, false, cond, List, [], ◌∷◌, ◌++◌, ◌||◌, ◌==◌, length, drop, get_or, ◌+◌, ◌<◌, ◌≤◌, add-one, nat_le, Option, Some, None, Result, Ok, Err, arith, refl, sym, ap}
+use Rattle.std.specs.Prelude.{IsUtf8, IsAscii, MatchOption, MatchResult}
 use Rattle.std.specs.Str.{is_utf8}
-use Rattle.std.proofs.lemmas.Str.{IsUtf8-from_is_utf8, is_utf8-from_IsUtf8}
-use Rattle.pq_shape.specs.Shapes.{utf8_text, kept_byte, is_kept_quote, undoubled_quotes}
+use Rattle.std.proofs.lemmas.Str.{IsUtf8-from_is_utf8, is_utf8-from_IsUtf8, IsUtf8-from_ascii}
+use Rattle.std.proofs.lemmas.Str.Ascii.{IsAscii-map, lowercase_ascii}
+use Rattle.std.specs.Char.{to_ascii_lowercase}
+use Rattle.pq_shape.specs.Shapes.{lowercase_bytes, name_shape, named_shape, utf8_text, kept_byte, is_kept_quote, undoubled_quotes}
 use Rattle.std.proofs.Math.Seq.{drop-cons}
 use Rattle.std.proofs.lemmas.List.{drop_all}
 use Rattle.std.proofs.lemmas.Bool.{true≢false}
+use Rattle.std.proofs.lemmas.Bool.Decides.{nat_tests}
+use Rattle.std.specs.Result.{is_ok}
+use Rattle.pq_shape.specs.Shape as shape
 use Rattle.std.specs.List.{list_any}
 
 none_is : (b : Bool) (bs : List ℕ) → is_utf8 bs ≡ b → (IsUtf8 bs → ⊥) → None ≡ cond b (Some bs) None
@@ -37,3 +42,34 @@ undoubled_plain (b ∷ bs) none = plain_step b bs (b == 39) refl none (undoubled
 pub undoubled_end : (q : Bool) (i : ℕ) (bs : List ℕ) → length bs ≤ i → undoubled_quotes q (drop i bs) ≡ []
 unfolding undoubled_quotes
 undoubled_end q i bs h = rw (drop_all i bs h) refl
+
+pub lowercase_utf8 : (bs : List ℕ) → IsAscii bs → is_utf8 (lowercase_bytes bs) ≡ true
+lowercase_utf8 bs ascii = is_utf8-from_IsUtf8 (lowercase_bytes bs) (IsUtf8-from_ascii (lowercase_bytes bs) (IsAscii-map to_ascii_lowercase bs lowercase_ascii ascii))
+
+pub named_word : (bs : List ℕ) → length bs ≤ 32 → is_utf8 (lowercase_bytes bs) ≡ true → name_shape bs ≡ shape.Name (lowercase_bytes bs)
+unfolding utf8_text
+named_word bs le is = let short : nat_le (length bs) 32 ≡ true = grind (arith, nat_tests) in rw (short, is) refl
+
+pub long_word : (bs : List ℕ) → 32 < length bs → name_shape bs ≡ shape.Other
+long_word bs lt = let long : nat_le (length bs) 32 ≡ false = grind (arith, nat_tests) in rw long refl
+
+other_bytes : (short : Bool) (low : List ℕ) → is_utf8 low ≡ false → cond short (named_shape (utf8_text low)) shape.Other ≡ shape.Other
+unfolding utf8_text
+other_bytes true low isnt = rw isnt refl
+other_bytes false low isnt = refl
+
+pub other_word : (bs : List ℕ) → is_utf8 (lowercase_bytes bs) ≡ false → name_shape bs ≡ shape.Other
+other_word bs isnt = other_bytes (nat_le (length bs) 32) (lowercase_bytes bs) isnt
+
+pub known_name : (low : List ℕ) → is_utf8 low ≡ true → utf8_text low ≡ Some low
+unfolding utf8_text
+known_name low is = rw is refl
+
+pub test_is : {S E : Type 0} (bs : List ℕ) (tested : Result S E) (same : S → Type 0) (upto : E → Type 0)
+    → MatchResult tested (λ s. same s × IsUtf8 bs) (λ e. ¬ (IsUtf8 bs) × upto e) → is_ok tested ≡ is_utf8 bs
+test_is bs (Ok s) same upto h = sym (is_utf8-from_IsUtf8 bs h.1)
+test_is bs (Err e) same upto h = not_utf8 (is_utf8 bs) refl h.0
+  where
+    not_utf8 : (b : Bool) → is_utf8 bs ≡ b → ¬ (IsUtf8 bs) → false ≡ b
+    not_utf8 true is isnt = absurd (isnt (IsUtf8-from_is_utf8 bs is))
+    not_utf8 false is isnt = refl

@@ -13,8 +13,8 @@ use Rattle.pq_shape.specs.Front.{is_mark_shape, mark_at}
 use Rattle.pq_shape.specs.Operators.{operator, op_at}
 use Rattle.pq_shape.specs.Parts.{mark}
 use Rattle.pq_shape.specs.declared.mark.TheConstants.{EQUAL, GREATER, LESS, LESS_EQUAL, UNEQUAL}
-use Rattle.pq_shape.specs.declared.shape.Shape.{Shape}
-use Rattle.pq_shape.specs.declared.shape.Shape.TheVariants as shape
+use Rattle.pq_shape.specs.Shape.{Shape}
+use Rattle.pq_shape.specs.Shape as shape
 use Rattle.pq_shape.proofs.Tokens.{mark_reads}
 
 abbrev pub op_made : Op → Op → List Shape → Type 0

@@ -17,8 +17,8 @@ use Rattle.pq_shape.specs.declared.keyword.TheConstants.{FALSE, TRUE}
 use Rattle.pq_shape.specs.declared.mark.TheConstants.{COMMA}
 use Rattle.pq_shape.specs.declared.soft.Soft.{Soft}
 use Rattle.pq_shape.specs.declared.soft.Soft.TheVariants as soft_word
-use Rattle.pq_shape.specs.declared.shape.Shape.{Shape}
-use Rattle.pq_shape.specs.declared.shape.Shape.TheVariants as shape
+use Rattle.pq_shape.specs.Shape.{Shape}
+use Rattle.pq_shape.specs.Shape as shape
 
 pub word_is : (k : ℕ) (t : Shape) → is_word_shape k t ≡ true → t ≡ shape.Keyword k
 unfolding is_word_shape

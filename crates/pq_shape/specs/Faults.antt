@@ -6,7 +6,7 @@ use Rattle.pq_base.specs.declared.refusal.Stopped.TheVariants.{Refused, NoMem}
 use Rattle.pq_grammar.specs.Language.{IsFaultPlace}
 use Rattle.pq_text.specs.declared.token.Token.{Token}
 use Rattle.pq_shape.specs.Shapes.{shapes_of}
-use Rattle.pq_shape.specs.declared.shape.Shape.{Shape}
+use Rattle.pq_shape.specs.Shape.{Shape}
 
 -- where a token stands, or the length where there is none
 abbrev pub from_or : ℕ → Option Token → ℕ

@@ -9,8 +9,8 @@ use Rattle.pq_shape.specs.declared.between.Between.{Between}
 use Rattle.pq_shape.specs.declared.between.Between.TheVariants as between
 use Rattle.pq_shape.specs.declared.soft.Soft.{Soft}
 use Rattle.pq_shape.specs.declared.soft.Soft.TheVariants as soft_word
-use Rattle.pq_shape.specs.declared.shape.Shape.{Shape}
-use Rattle.pq_shape.specs.declared.shape.Shape.TheVariants as shape
+use Rattle.pq_shape.specs.Shape.{Shape}
+use Rattle.pq_shape.specs.Shape as shape
 
 -- the name that has the word's letters
 abbrev pub soft_name : Soft → List ℕ

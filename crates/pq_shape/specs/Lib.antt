@@ -1,8 +1,10 @@
 pub mod Numbers
+pub mod Shape
 pub mod Shapes
 pub mod Letters
 pub mod Front
 pub mod Parts
 pub mod Operators
+pub mod Cursors
 pub mod Faults
 pub mod Laws

@@ -6,7 +6,7 @@ use Rattle.pq_grammar.specs.Reader.{Reader, map_at, choice_at, test_of}
 use Rattle.pq_grammar.specs.Shrinking.{Keeps, token_shrinks, shrinks_keeps, map_keeps, choice_keeps}
 use Rattle.pq_shape.specs.Front.{is_mark_shape, mark_at}
 use Rattle.pq_shape.specs.declared.mark.TheConstants.{EQUAL, GREATER, GREATER_EQUAL, LESS, LESS_EQUAL, UNEQUAL}
-use Rattle.pq_shape.specs.declared.shape.Shape.{Shape}
+use Rattle.pq_shape.specs.Shape.{Shape}
 
 -- the mark of a comparison; IS NULL has none, and no mark is 0
 abbrev pub operator : Op → ℕ

@@ -8,8 +8,8 @@ use Rattle.pq_shape.specs.declared.mark.TheConstants.{COMMA}
 use Rattle.pq_shape.specs.Front.{soft_name}
 use Rattle.pq_shape.specs.declared.soft.Soft.{Soft}
 use Rattle.pq_shape.specs.declared.soft.Soft.TheVariants as soft_word
-use Rattle.pq_shape.specs.declared.shape.Shape.{Shape}
-use Rattle.pq_shape.specs.declared.shape.Shape.TheVariants as shape
+use Rattle.pq_shape.specs.Shape.{Shape}
+use Rattle.pq_shape.specs.Shape as shape
 
 -- a keyword, by its place in the table
 abbrev pub word : ℕ → List Shape → Type 0

@@ -8,8 +8,8 @@ use Rattle.pq_text.specs.declared.token.Kind.{Kind}
 use Rattle.pq_text.specs.declared.token.Kind.TheVariants as kind
 use Rattle.pq_text.specs.declared.token.Token.{Token}
 use Rattle.pq_shape.specs.Numbers.{digits_number}
-use Rattle.pq_shape.specs.declared.shape.Shape.{Shape}
-use Rattle.pq_shape.specs.declared.shape.Shape.TheVariants as shape
+use Rattle.pq_shape.specs.Shape.{Shape}
+use Rattle.pq_shape.specs.Shape as shape
 
 -- the bytes of a token
 abbrev pub bytes_of : List ℕ → Token → List ℕ

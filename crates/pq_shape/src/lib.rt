@@ -4,16 +4,17 @@
 //! a mark, or something that no statement has. Both readers go over shapes, by the parts that stand here.
 #![tactic(auto)]
 
+mod behind;
 mod between;
 mod cursor;
 mod fault;
 mod keyword;
 pub mod laws;
 mod mark;
+mod next;
 mod number;
 mod op;
 mod part;
-mod shape;
 mod soft;
 
 pub use between::Between;
@@ -30,5 +31,4 @@ pub use mark::{
 };
 pub use op::operator;
 pub use part::{Part, separated};
-pub use shape::{Shape, shapes};
 pub use soft::Soft;

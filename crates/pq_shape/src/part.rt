@@ -4,7 +4,7 @@ ghost use Rattle.std.specs.Prelude as prelude;
 ghost use Rattle.pq_grammar.specs.Reader.{separated_at, skip_at};
 ghost use Rattle.pq_grammar.specs.Answers.{Gives};
 ghost use Rattle.pq_shape.specs.Front.{is_between, between_at};
-ghost use Rattle.pq_shape.specs.declared.shape.Shape.{Shape};
+ghost use Rattle.pq_shape.specs.Shape.{Shape};
 
 use crate::between::Between;
 use crate::cursor::Cursor;

@@ -8,7 +8,7 @@ use Rattle.pq_base.specs.declared.count_word.TheConstants.{WRITES}
 use Rattle.pq_base.specs.declared.refusal.Refusal.{Refusal}
 use Rattle.pq_base.specs.declared.refusal.Refusal.TheVariants as refusal
 use Rattle.pq_schema.specs.Schema.{Schema}
-use Rattle.pq_shape.specs.declared.shape.Shape.{Shape}
+use Rattle.pq_shape.specs.Shape.{Shape}
 use Rattle.pq_def_read.specs.Grammar.{Spells}
 use Rattle.pq_def_read.specs.declared.statement.Statement.{Statement}
 use Rattle.pq_def_read.specs.declared.statement.Statement.TheVariants as statement

@@ -2,7 +2,7 @@ use Rattle.std.proofs.Common.{◌≡◌, ℕ, List, Some, sym, ap, ◌∙◌, ma
 use Rattle.std.specs.Prelude.{slice_get, bytes_eq}
 use Rattle.pq_base.specs.Words.{uppercase_byte, keywords}
 use Rattle.pq_shape.proofs.Places.{keyword_here, keyword_beyond, place_none}
-use Rattle.pq_shape.proofs.shape.keyword_among.Goals as goal
+use Rattle.pq_shape.proofs.next.keyword_among.Goals as goal
 
 pub places-init : goal.places-init
 places-init c = λ k lt at. let first = (c.requires.among k at).0 in absurd (omega arith)

@@ -1,31 +1,53 @@
-//! What each token of a text stands for.
+//! The next token, seen as what it stands for.
 ghost use Rattle.std.specs.Prelude.{◌≡◌, ◌<◌, ◌≤◌, ℕ, Some, None, IfOk, OnOk, MatchOption, length, map, ◌++◌, slice_range, slice_index, slice_get, bytes_eq, ◌-◌, false};
+ghost use Rattle.std.specs.Str.{is_utf8};
 ghost use Rattle.pq_base.specs.Words.{uppercase_byte, keywords};
-ghost use Rattle.pq_shape.specs.Shapes.{bytes_of, word_place, lowercase_bytes, utf8_text, name_shape, word_shape, kept_byte, is_kept_quote, undoubled_quotes, number_or_other, mark_code, kind_shape, shape_of, shapes_of};
+ghost use Rattle.pq_shape.specs.Cursors.{shape_seen, IsNamed};
+ghost use Rattle.pq_shape.specs.Front.{is_word_shape, is_mark_shape, is_name_shape, is_soft_shape, soft_name, name_of, number_in, text_in, constant_in};
+ghost use Rattle.pq_shape.specs.Shapes.{bytes_of, word_place, lowercase_bytes, utf8_text, word_shape, kept_byte, is_kept_quote, undoubled_quotes, mark_code, between_quotes, shape_of};
 ghost use Rattle.pq_shape.specs.Letters.{letter_places};
-ghost use Rattle.pq_shape.specs.Numbers.{digits_number};
-ghost use Rattle.pq_text.specs.declared.token.Kind.TheVariants as kind;
 
+use crate::keyword::{FALSE, TRUE};
 use crate::number::number;
-use pq_base::{Bytes, List, NoMem, PText, keyword_table};
+use crate::soft::Soft;
+use pq_base::{Bytes, NoMem, PText, Value, keyword_table};
 use pq_text::{Kind, Token};
 use std::alloc::Global;
+use std::marker::Model;
 
-/// What a token stands for.
-#[derive(Drop)]
-pub enum Shape {
+/// What bytes are, found without memory. Numbers, names and texts are made where they are read.
+#[derive(Clone, Copy)]
+enum Sort {
     /// A word of the keyword table, by its place there.
     Keyword(u8),
-    /// A name in small letters.
-    Name(PText),
-    /// A number of 64 bits with its sign.
-    Number(i64),
-    /// A text without its quotes, each doubled quote once.
-    Text(PText),
+    /// A word of at most 32 bytes.
+    Name,
+    /// Digits, with a `-` before them or not, of whatever size.
+    Number,
+    /// What stands between quotes, UTF-8 or not.
+    Text,
     /// A mark, by its code: its byte, or of two bytes 256 times the first and the second.
     Mark(u16),
     /// What no statement has.
     Other,
+}
+
+/// A token, seen as what it stands for.
+#[derive(Drop)]
+pub struct Next<'a> {
+    sort: Sort,
+    bytes: &'a [u8],
+}
+
+impl<'a> Model for Next<'a> {
+    ghost use Rattle.pq_shape.specs.Cursors.{shape_seen, IsNamed};
+    ghost use Rattle.pq_shape.specs.Shape.{Shape};
+
+    ghost Value = { Shape };
+
+    ghost view = { λ n. shape_seen n.sort n.bytes.now };
+
+    ghost invariant = { λ n. IsNamed n.sort n.bytes.now };
 }
 
 /// The bytes of a token.
@@ -150,25 +172,36 @@ fn gathered(bytes: Bytes) -> Option<PText>
     PText::from_vec(bytes.into_vec())
 }
 
-fn name(alloc: Global, bytes: &[u8]) -> Result<Shape, NoMem>
-    ensures { IfOk result (λ shape. shape ≡ name_shape bytes.now) }
+/// Whether the bytes in small letters are UTF-8.
+#[tactic(auto, using(crate::proofs::Made::lowercase_utf8))]
+fn is_lowered_utf8(bytes: &[u8]) -> bool
+    requires { length bytes.now ≤ 32 }
+    ensures { result ≡ is_utf8 (lowercase_bytes bytes.now) }
 {
-    if bytes.len() > 32 {
-        return Ok(Shape::Other);
+    if bytes.is_ascii() {
+        return true;
     }
-    let low = lower(alloc, bytes)?;
-    match gathered(low) {
-        Some(name) => Ok(Shape::Name(name)),
-        None => Ok(Shape::Other),
-    }
+    let mut room = [0; 32];
+    let low = &mut room[..bytes.len()];
+    low.copy_from_slice(bytes);
+    low.make_ascii_lowercase();
+    std::str::from_utf8(low).is_ok()
 }
 
-fn word(alloc: Global, bytes: &[u8]) -> Result<Shape, NoMem>
-    ensures { IfOk result (λ shape. shape ≡ word_shape bytes.now) }
+/// What a word is.
+fn word(bytes: &[u8]) -> Sort
+    ensures shape { shape_seen result bytes.now ≡ word_shape bytes.now }
+    ensures named { IsNamed result bytes.now }
 {
     match keyword(bytes) {
-        Some(place) => Ok(Shape::Keyword(place)),
-        None => name(alloc, bytes),
+        Some(place) => Sort::Keyword(place),
+        None => {
+            if bytes.len() <= 32 && is_lowered_utf8(bytes) {
+                Sort::Name
+            } else {
+                Sort::Other
+            }
+        }
     }
 }
 
@@ -219,16 +252,6 @@ fn plain_text(alloc: Global, inner: &[u8]) -> Result<Option<PText>, NoMem>
     Ok(gathered(plain))
 }
 
-fn quoted(alloc: Global, bytes: &[u8]) -> Result<Shape, NoMem>
-    ensures { IfOk result (λ shape. shape ≡ kind_shape kind.Text bytes.now) }
-{
-    let made = plain_text(alloc, inner(bytes))?;
-    match made {
-        Some(text) => Ok(Shape::Text(text)),
-        None => Ok(Shape::Other),
-    }
-}
-
 fn mark(bytes: &[u8]) -> u16
     ensures { result ≡ mark_code bytes.now }
 {
@@ -239,36 +262,105 @@ fn mark(bytes: &[u8]) -> u16
     }
 }
 
-fn number_shape(bytes: &[u8]) -> Shape
-    ensures { result ≡ number_or_other (digits_number bytes.now) }
-{
-    match number(bytes) {
-        Some(number) => Shape::Number(number),
-        None => Shape::Other,
+impl<'a> Next<'a> {
+    /// This token of a text.
+    #[tactic(auto, unfolding(crate::specs::Shapes::shape_of))]
+    pub fn new(text: &'a [u8], token: Token) -> Next<'a>
+        ensures { result ≡ shape_of text.now token }
+    {
+        let bytes = bytes_at(text, token);
+        let sort = match token.kind {
+            Kind::Word => word(bytes),
+            Kind::Number => Sort::Number,
+            Kind::Text => Sort::Text,
+            Kind::Mark => Sort::Mark(mark(bytes)),
+            Kind::Other => Sort::Other,
+        };
+        Next { sort, bytes }
     }
-}
 
-#[tactic(auto, unfolding(crate::specs::Shapes::shape_of))]
-fn shape_at(alloc: Global, text: &[u8], token: Token) -> Result<Shape, NoMem>
-    ensures { IfOk result (λ shape. shape ≡ shape_of text.now token) }
-{
-    let bytes = bytes_at(text, token);
-    match token.kind {
-        Kind::Word => word(alloc, bytes),
-        Kind::Number => Ok(number_shape(bytes)),
-        Kind::Text => quoted(alloc, bytes),
-        Kind::Mark => Ok(Shape::Mark(mark(bytes))),
-        Kind::Other => Ok(Shape::Other),
+    /// Whether it is this keyword.
+    #[tactic(auto, unfolding(crate::specs::Front::is_word_shape))]
+    pub fn is_word(&self, place: u8) -> bool
+        ensures { result ≡ is_word_shape place self.now }
+    {
+        matches!(self.sort, Sort::Keyword(other) if other == place)
     }
-}
 
-/// What the tokens of a text stand for.
-pub fn shapes(alloc: Global, text: &[u8], tokens: &[Token]) -> Result<List<Shape>, NoMem>
-    ensures { IfOk result (λ found. found ≡ shapes_of text.now tokens.now) }
-{
-    let mut found = List::with_room(alloc, tokens.len())?;
-    for token in tokens {
-        found.push(alloc, shape_at(alloc, text, *token)?)?;
+    /// Whether it is this mark.
+    #[tactic(auto, unfolding(crate::specs::Front::is_mark_shape))]
+    pub fn is_mark(&self, mark: u16) -> bool
+        ensures { result ≡ is_mark_shape mark self.now }
+    {
+        matches!(self.sort, Sort::Mark(other) if other == mark)
     }
-    Ok(found)
+
+    /// Whether it is a name.
+    #[tactic(auto, unfolding(crate::specs::Front::is_name_shape))]
+    pub fn is_name(&self) -> bool
+        ensures { result ≡ is_name_shape self.now }
+    {
+        matches!(self.sort, Sort::Name)
+    }
+
+    /// Whether it is this soft word.
+    #[tactic(auto, unfolding(crate::specs::Front::is_soft_shape))]
+    pub fn is_soft(&self, soft: Soft) -> bool
+        ensures { result ≡ is_soft_shape soft self.now }
+    {
+        match self.sort {
+            Sort::Name => self.bytes.eq_ignore_ascii_case(soft.name()),
+            _ => false,
+        }
+    }
+
+    /// The name that it is.
+    #[tactic(auto, unfolding(crate::specs::Front::name_of))]
+    pub fn name(&self, alloc: Global) -> Result<Option<PText>, NoMem>
+        ensures { IfOk result (λ name. name ≡ name_of self.now) }
+    {
+        match self.sort {
+            Sort::Name => {
+                let low = lower(alloc, self.bytes)?;
+                Ok(gathered(low))
+            }
+            _ => Ok(None),
+        }
+    }
+
+    /// The number that it is.
+    #[tactic(auto, unfolding(crate::specs::Front::number_in))]
+    pub fn number(&self) -> Option<i64>
+        ensures { result ≡ number_in self.now }
+    {
+        match self.sort {
+            Sort::Number => number(self.bytes),
+            _ => None,
+        }
+    }
+
+    /// The text that it is.
+    #[tactic(auto, unfolding(crate::specs::Front::text_in))]
+    pub fn text(&self, alloc: Global) -> Result<Option<PText>, NoMem>
+        ensures { IfOk result (λ text. text ≡ text_in self.now) }
+    {
+        match self.sort {
+            Sort::Text => plain_text(alloc, inner(self.bytes)),
+            _ => Ok(None),
+        }
+    }
+
+    /// The constant that it is.
+    #[tactic(auto, unfolding(crate::specs::Front::constant_in, crate::specs::Front::truth_of))]
+    pub fn constant(&self, alloc: Global) -> Result<Option<Value>, NoMem>
+        ensures { IfOk result (λ value. value ≡ constant_in self.now) }
+    {
+        Ok(match self.sort {
+            Sort::Number => number(self.bytes).map(Value::Int),
+            Sort::Text => plain_text(alloc, inner(self.bytes))?.map(Value::Text),
+            Sort::Keyword(TRUE) => Some(Value::Bool(true)),
+            Sort::Keyword(FALSE) => Some(Value::Bool(false)),
+            _ => None,
+        })
+    }
 }

@@ -1,7 +1,7 @@
 use Rattle.std.proofs.Common.{◌++◌, List, ℕ, sym, ap, ◌∙◌, append_assoc}
 use Rattle.std.proofs.lemmas.List.{append-nil}
 use Rattle.pq_shape.proofs.Made.{undoubled_step, undoubled_end}
-use Rattle.pq_shape.proofs.shape.undouble.Goals as goal
+use Rattle.pq_shape.proofs.next.undouble.Goals as goal
 
 pub loop-byte-preserved : goal.loop-byte-preserved
 loop-byte-preserved c =

@@ -1,5 +1,5 @@
 use Rattle.std.proofs.Common.{length}
-use Rattle.pq_shape.proofs.shape.+is_word.Given as goal
+use Rattle.pq_shape.proofs.next.+is_word.Given as goal
 
 abbrev pub decreases-is_word : goal.decreases-is_word
 decreases-is_word l = length l.word.now
