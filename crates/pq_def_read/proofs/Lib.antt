@@ -1,3 +1,4 @@
+pub mod Arguments
 pub mod Parted
 pub mod Ends
 pub mod Parts

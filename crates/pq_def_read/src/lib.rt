@@ -2,7 +2,7 @@
 //!
 //! `read_statement` answers a statement exactly where the tokens spell it, and otherwise refuses with the offset
 //! of the first token such that no statement begins with the tokens up to and with it. Of PREPARE, EXPLAIN and SELECT
-//! it reads the head alone.
+//! it reads the head alone. `read_text` reads the same from a text, without a list of its tokens.
 #![tactic(auto)]
 
 mod definition;
@@ -12,6 +12,6 @@ mod statement;
 mod write;
 mod writes;
 
-pub use reading::read_statement;
+pub use reading::{read_statement, read_text};
 pub use statement::Statement;
 pub use write::{Assign, CondDef, SetDef, Setting, WriteDef};

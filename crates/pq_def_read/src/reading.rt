@@ -1,8 +1,12 @@
 //! Reading statements.
-ghost use Rattle.std.specs.Prelude.{◌≡◌, ◌-◌, ◌≤◌, ◌^◌, length, Ok, IfOk, IfErr, MatchResult, min};
+ghost use Rattle.std.specs.Prelude.{◌≡◌, ◌-◌, ◌≤◌, ◌^◌, ℕ, length, Result, Ok, Err, IfOk, IfErr, MatchResult, min};
 ghost use Rattle.pq_grammar.specs.Answers.{Gives};
+ghost use Rattle.pq_grammar.specs.Reader.{close_at};
 ghost use Rattle.pq_def_read.specs.Reading.{create_statement_at, written_at, batch_at, prepare_at, explain_at, select_at, listed_values_at, arguments_at, after_at, run_at, read_counter_at, show_at, statement_at, read_at, statement_of};
+ghost use Rattle.pq_shape.specs.Front.{mark_at};
 ghost use Rattle.pq_shape.specs.Shapes.{shapes_of};
+ghost use Rattle.pq_shape.specs.declared.mark.TheConstants.{CLOSE};
+ghost use Rattle.pq_text.specs.Tokens.{text_limit, tokens_of};
 ghost use Rattle.pq_shape.specs.Faults.{IsRefusalOf, IsNoMem};
 ghost use Rattle.pq_def_read.specs.Grammar.{Spells};
 ghost use Rattle.pq_def_read.specs.Faults.{IsFault};
@@ -13,13 +17,13 @@ use crate::definition::{alter, counter_definition, stop, table_definition};
 use crate::known::known_statement;
 use crate::statement::Statement;
 use crate::writes::{any_write, values, writes};
-use pq_base::{List, PText, Stopped, Value};
+use pq_base::{List, NoMem, PText, Stopped, Value};
 use pq_grammar::ReadError;
 use pq_shape::{
-    AFTER, AS, CLOSE, CREATE, Cursor, EXPLAIN, OPEN, PREPARE, RUN, SELECT, SEMICOLON, SHOW, Shape,
-    Soft, TABLE, shapes, syntax,
+    AFTER, AS, CLOSE, CREATE, Cursor, EXPLAIN, OPEN, PREPARE, RUN, SELECT, SEMICOLON, SHOW, Soft, TABLE,
+    syntax,
 };
-use pq_text::Token;
+use pq_text::{Token, tokens};
 use std::alloc::Global;
 
 /// The arm of the word that comes next.
@@ -94,14 +98,18 @@ fn select(c: &mut Cursor) -> Result<Statement, ReadError>
     Ok(Statement::Select)
 }
 
-#[tactic(auto, unfolding(crate::specs::Reading::listed_values_at, crate::specs::Writes::values_clause_at))]
-fn listed_values(alloc: Global, c: &mut Cursor) -> Result<List<Value>, ReadError>
-    ensures { Gives (λ x. (x, c.new)) result (listed_values_at c.old) }
+/// Reads the values, if there are any, and the mark behind them.
+#[tactic(auto, using(crate::proofs::Arguments::closes_none, crate::proofs::Arguments::closes_values))]
+fn closed_values(alloc: Global, c: &mut Cursor) -> Result<List<Value>, ReadError>
+    ensures { Gives (λ x. (x, c.new)) result (close_at listed_values_at (mark_at CLOSE) c.old) }
 {
-    if c.is_value() {
-        return values(alloc, c);
+    if c.is_mark(CLOSE) {
+        c.mark(CLOSE)?;
+        return Ok(List::new(alloc));
     }
-    Ok(List::new(alloc))
+    let values = values(alloc, c)?;
+    c.mark(CLOSE)?;
+    Ok(values)
 }
 
 #[tactic(auto, unfolding(crate::specs::Reading::arguments_at))]
@@ -112,9 +120,7 @@ fn arguments(alloc: Global, c: &mut Cursor) -> Result<List<Value>, ReadError>
         return Ok(List::new(alloc));
     }
     c.mark(OPEN)?;
-    let values = listed_values(alloc, c)?;
-    c.mark(CLOSE)?;
-    Ok(values)
+    closed_values(alloc, c)
 }
 
 #[tactic(auto, unfolding(crate::specs::Reading::after_at))]
@@ -193,30 +199,54 @@ fn any_statement(alloc: Global, c: &mut Cursor) -> Result<Statement, ReadError>
     )
 }
 
+/// Reads all that is left.
 #[tactic(auto, unfolding(crate::specs::Reading::read_at))]
-fn whole(alloc: Global, tokens: &[Shape]) -> Result<Statement, ReadError>
-    ensures { Gives (λ x. x) result (read_at tokens.now) }
+fn whole(alloc: Global, c: &mut Cursor) -> Result<Statement, ReadError>
+    ensures { Gives (λ x. x) result (read_at c.old) }
 {
-    let mut c = Cursor::new(tokens);
-    let statement = any_statement(alloc, &mut c)?;
-    if c.left() != 0 {
-        return Err(ReadError::Stuck(c.left()));
+    let statement = any_statement(alloc, c)?;
+    let left = c.left();
+    if left != 0 {
+        return Err(ReadError::Stuck(left));
     }
     Ok(statement)
 }
 
-/// Reads from left to right.
+/// Reads these tokens from left to right.
 fn read(alloc: Global, text: &PText, tokens: &List<Token>) -> Result<Statement, Stopped>
     ensures reads { IfOk result (λ s. statement_of text.now tokens.now ≡ Ok s) }
     ensures stops { IfErr result (IsRefusalOf text.now tokens.now (statement_of text.now tokens.now)) }
 {
-    let Ok(seen) = shapes(alloc, text.bytes(), tokens.items()) else {
-        return Err(Stopped::NoMem);
-    };
-    match whole(alloc, seen.items()) {
+    match whole(alloc, &mut Cursor::over(text.bytes(), tokens.items())) {
         Ok(statement) => Ok(statement),
         Err(ReadError::NoMem) => Err(Stopped::NoMem),
         Err(ReadError::Stuck(left)) => Err(syntax(text.bytes(), tokens.items(), left)),
+    }
+}
+
+/// The refusal of a text in which so many tokens are left.
+fn refused(alloc: Global, text: &PText, left: usize) -> Stopped
+    requires { length text.now ≤ text_limit }
+    ensures { (read : Result declared.Statement ℕ) → read ≡ Err left
+        → IsRefusalOf text.now (tokens_of text.now) read result }
+{
+    match tokens(alloc, text) {
+        Ok(tokens) => syntax(text.bytes(), tokens.items(), left),
+        Err(NoMem) => Stopped::NoMem,
+    }
+}
+
+/// Reads the tokens of a text from left to right, each where it is found.
+fn read_through(alloc: Global, text: &PText) -> Result<Statement, Stopped>
+    requires { length text.now ≤ text_limit }
+    ensures reads { IfOk result (λ s. statement_of text.now (tokens_of text.now) ≡ Ok s) }
+    ensures stops { IfErr result (IsRefusalOf text.now (tokens_of text.now)
+        (statement_of text.now (tokens_of text.now))) }
+{
+    match whole(alloc, &mut Cursor::new(text.bytes())) {
+        Ok(statement) => Ok(statement),
+        Err(ReadError::NoMem) => Err(Stopped::NoMem),
+        Err(ReadError::Stuck(left)) => Err(refused(alloc, text, left)),
     }
 }
 
@@ -246,6 +276,37 @@ pub fn read_statement(
     ensures values { IfOk result HasValues }
 {
     match read(alloc, text, tokens) {
+        Ok(statement) => {
+            known_statement(&statement);
+            Ok(statement)
+        }
+        Err(stopped) => Err(stopped),
+    }
+}
+
+/// The statement that a text of at most 1,048,576 bytes spells. No list of its tokens is made where it spells one.
+///
+/// # Errors
+///
+/// As of `read_statement` over the tokens of the text.
+pub fn read_text(alloc: Global, text: &PText) -> Result<Statement, Stopped>
+    requires { length text.now ≤ text_limit }
+    // What is read is spelled so.
+    ensures found { IfOk result (λ s. Spells s (shapes_of text.now (tokens_of text.now))) }
+    // What is spelled so is read, unless memory runs out.
+    ensures only { (s : declared.Statement) → Spells s (shapes_of text.now (tokens_of text.now))
+        → MatchResult result (λ x. x ≡ s) IsNoMem }
+    // The place of the fault.
+    ensures fault { IfErr result (IsFault text.now (tokens_of text.now)) }
+    // The statement that reading from left to right gives.
+    ensures reads { IfOk result (λ s. statement_of text.now (tokens_of text.now) ≡ Ok s) }
+    // The refusal for the place where reading stopped.
+    ensures stops { IfErr result (IsRefusalOf text.now (tokens_of text.now)
+        (statement_of text.now (tokens_of text.now))) }
+    // Numbers are of 64 bits, and texts are UTF-8.
+    ensures values { IfOk result HasValues }
+{
+    match read_through(alloc, text) {
         Ok(statement) => {
             known_statement(&statement);
             Ok(statement)

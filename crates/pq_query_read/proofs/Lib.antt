@@ -1,3 +1,4 @@
+pub mod After
 pub mod Elements
 pub mod Predicates
 pub mod Selects

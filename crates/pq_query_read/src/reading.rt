@@ -12,8 +12,7 @@ use crate::select::{ItemDef, PredDef, RefDef, RelationDef, SelectDef, Selected};
 use pq_base::{List, PText, Stopped};
 use pq_grammar::ReadError;
 use pq_shape::{
-    BY, Between, Cursor, FROM, ORDER, SELECT, SEMICOLON, STAR, Shape, WHERE, separated, shapes,
-    syntax,
+    BY, Between, Cursor, FROM, ORDER, SELECT, SEMICOLON, STAR, WHERE, separated, syntax,
 };
 use pq_text::Token;
 use std::alloc::Global;
@@ -102,20 +101,21 @@ fn query(alloc: Global, c: &mut Cursor) -> Result<SelectDef, ReadError>
     })
 }
 
+/// Reads all that is left.
 #[tactic(auto, unfolding(crate::specs::Reading::select_read_at))]
-fn whole(alloc: Global, tokens: &[Shape]) -> Result<SelectDef, ReadError>
-    ensures { Gives (λ x. x) result (select_read_at tokens.now) }
+fn whole(alloc: Global, c: &mut Cursor) -> Result<SelectDef, ReadError>
+    ensures { Gives (λ x. x) result (select_read_at c.old) }
 {
-    let mut c = Cursor::new(tokens);
-    let select = query(alloc, &mut c)?;
-    if c.left() != 0 {
-        return Err(ReadError::Stuck(c.left()));
+    let select = query(alloc, c)?;
+    let left = c.left();
+    if left != 0 {
+        return Err(ReadError::Stuck(left));
     }
     Ok(select)
 }
 
 /// The tokens from a place on.
-fn after(tokens: &[Shape], from: usize) -> &[Shape]
+fn after(tokens: &[Token], from: usize) -> &[Token]
     requires { from ≤ length tokens.now }
     ensures { result.now ≡ drop from tokens.now }
 {
@@ -123,16 +123,14 @@ fn after(tokens: &[Shape], from: usize) -> &[Shape]
 }
 
 /// Reads from left to right.
+#[tactic(auto, using(crate::proofs::After::shapes_after))]
 fn read(alloc: Global, text: &PText, tokens: &List<Token>, from: u32) -> Result<SelectDef, Stopped>
     requires { from ≤ length tokens.now }
     ensures reads { IfOk result (λ s. select_of text.now tokens.now from ≡ Ok s) }
     ensures stops { IfErr result (IsRefusalOf text.now tokens.now (select_of text.now tokens.now from)) }
 {
-    let Ok(seen) = shapes(alloc, text.bytes(), tokens.items()) else {
-        return Err(Stopped::NoMem);
-    };
-    let rest = after(seen.items(), from as usize);
-    match whole(alloc, rest) {
+    let rest = after(tokens.items(), from as usize);
+    match whole(alloc, &mut Cursor::over(text.bytes(), rest)) {
         Ok(select) => Ok(select),
         Err(ReadError::NoMem) => Err(Stopped::NoMem),
         Err(ReadError::Stuck(left)) => Err(syntax(text.bytes(), tokens.items(), left)),
