@@ -7,17 +7,17 @@ ghost use Rattle.pq_schema.specs.Counters.{IsCounterNumber};
 ghost use Rattle.pq_schema.specs.Definitions.{definition_refusal};
 ghost use Rattle.pq_schema.specs.Resolved.{param_type};
 ghost use Rattle.pq_schema.specs.Tables.{types_at};
-ghost use Rattle.pq_text.specs.Tokens.{tokens_of};
+ghost use Rattle.pq_text.specs.Tokens.{text_limit, tokens_of};
 ghost use Rattle.pq_statement.specs.Actions.{Writes, action_from, action_of, asked_by, asked_text, batch_action, batch_asked};
 ghost use Rattle.pq_statement.specs.Batches.{HasWrites, checked_writes};
 ghost use Rattle.pq_planning.specs.Names.{IsNamedStatement};
-ghost use Rattle.pq_planning.specs.Planned.{IsPlanned};
-ghost use Rattle.pq_planning.specs.Planning.{arranged_from, prepared_from};
+ghost use Rattle.pq_planning.specs.Planned.{IsOnce, IsPlanned};
+ghost use Rattle.pq_planning.specs.Planning.{arranged_from, explained_name, prepared_from, selected_from};
 ghost use Rattle.pq_statement.specs.Readings.{IsReading, reading_of, reading_types};
 ghost use Rattle.pq_statement.specs.Requests.{Asks, RunsAs, reading_asked};
 
 use pq_base::{ColType, List, NoMem, PText, Refusal, Row, Stopped, count_word};
-use pq_def_read::{Statement, WriteDef, read_statement};
+use pq_def_read::{Statement, WriteDef, read_text};
 use pq_definitions::DEFINITIONS;
 use pq_index_keep::{Write, check_write};
 use pq_planning::{PlannedQuery, explained_name, plan_arranged, plan_select};
@@ -109,9 +109,8 @@ fn asked_text(alloc: Global, catalog: &Catalog, text: &PText) -> Result<Request,
     if text.bytes().len() > STATEMENT_BYTES {
         return Err(Stopped::Refused(Refusal::StatementLong));
     }
-    let found = tokens(alloc, text)?;
-    let statement = read_statement(alloc, text, &found)?;
-    asked_by(alloc, catalog, text, &found, statement)
+    let statement = read_text(alloc, text)?;
+    asked_by(alloc, catalog, text, statement)
 }
 
 /// What a statement that was read asks for.
@@ -119,26 +118,26 @@ fn asked_by(
     alloc: Global,
     catalog: &Catalog,
     text: &PText,
-    tokens: &List<Token>,
     statement: Statement,
 ) -> Result<Request, Stopped>
-    requires spelled { tokens.now ≡ tokens_of text.now }
-    requires named { IsNamedStatement tokens.now statement }
+    requires limit { length text.now ≤ text_limit }
+    requires named { IsNamedStatement (tokens_of text.now) statement }
     requires some { HasWrites statement }
     ensures asks { IfOk result
-        (λ request. Asks catalog.now request (asked_by catalog.now text.now tokens.now statement)) }
-    ensures refused { IfErr result (λ stopped. Refuses stopped (asked_by catalog.now text.now tokens.now statement)) }
+        (λ request. Asks catalog.now request (asked_by catalog.now text.now (tokens_of text.now) statement)) }
+    ensures refused { IfErr result
+        (λ stopped. Refuses stopped (asked_by catalog.now text.now (tokens_of text.now) statement)) }
 {
     match statement {
         Statement::Create(def) => Ok(Request::Create(def)),
         Statement::Alter(def) => Ok(Request::Alter(def)),
         Statement::Prepare { name, from } => {
-            let plan = definable(alloc, catalog, name, text, tokens, from)?;
+            let plan = prepared(alloc, catalog, name, text, from)?;
             Ok(Request::Prepare(plan))
         }
         Statement::Explain { from } => {
             let name = explained_name(alloc)?;
-            let plan = plan_arranged(alloc, catalog, name, text, tokens, from)?;
+            let plan = arranged(alloc, catalog, name, text, from)?;
             Ok(Request::Explain(plan))
         }
         Statement::Run {
@@ -156,7 +155,7 @@ fn asked_by(
         }
         Statement::Show => Ok(Request::Show),
         Statement::Select => {
-            let plan = plan_select(alloc, catalog, text, tokens)?;
+            let plan = selected(alloc, catalog, text)?;
             Ok(Request::Select(plan))
         }
         Statement::Write(write) => asked_write(alloc, catalog, &write),
@@ -230,6 +229,58 @@ fn definable(
     let plan = plan_arranged(alloc, catalog, name, text, tokens, from)?;
     check_definition(alloc, catalog, &plan.query.name)?;
     Ok(plan)
+}
+
+/// The same of the tokens of a text.
+fn prepared(
+    alloc: Global,
+    catalog: &Catalog,
+    name: PText,
+    text: &PText,
+    from: u32,
+) -> Result<PlannedQuery, Stopped>
+    requires limit { length text.now ≤ text_limit }
+    requires within { from ≤ length (tokens_of text.now) }
+    ensures planned { IfOk result (IsPlanned catalog.now name
+        (arranged_from catalog.now name text.now (tokens_of text.now) from)) }
+    ensures free { IfOk result (λ plan. definition_refusal catalog.now plan.query.name ≡ None) }
+    ensures refused { IfErr result
+        (λ stopped. Refuses stopped (prepared_from catalog.now name text.now (tokens_of text.now) from)) }
+{
+    let tokens = tokens(alloc, text)?;
+    definable(alloc, catalog, name, text, &tokens, from)
+}
+
+/// The query of this name that the tokens of a text from a place on spell, arranged, with its plan.
+fn arranged(
+    alloc: Global,
+    catalog: &Catalog,
+    name: PText,
+    text: &PText,
+    from: u32,
+) -> Result<PlannedQuery, Stopped>
+    requires limit { length text.now ≤ text_limit }
+    requires within { from ≤ length (tokens_of text.now) }
+    ensures planned { IfOk result (IsPlanned catalog.now name
+        (arranged_from catalog.now name text.now (tokens_of text.now) from)) }
+    ensures refused { IfErr result
+        (λ stopped. Refuses stopped (arranged_from catalog.now name text.now (tokens_of text.now) from)) }
+{
+    let tokens = tokens(alloc, text)?;
+    plan_arranged(alloc, catalog, name, text, &tokens, from)
+}
+
+/// The query that a text spells, arranged, with its plan, as it is run once.
+fn selected(alloc: Global, catalog: &Catalog, text: &PText) -> Result<PlannedQuery, Stopped>
+    requires { length text.now ≤ text_limit }
+    ensures planned { IfOk result (IsPlanned catalog.now explained_name
+        (selected_from catalog.now text.now (tokens_of text.now))) }
+    ensures once { IfOk result IsOnce }
+    ensures refused { IfErr result
+        (λ stopped. Refuses stopped (selected_from catalog.now text.now (tokens_of text.now))) }
+{
+    let tokens = tokens(alloc, text)?;
+    plan_select(alloc, catalog, text, &tokens)
 }
 
 /// Refuses one definition more than there may be, and a name that is taken.

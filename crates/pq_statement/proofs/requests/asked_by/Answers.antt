@@ -9,16 +9,17 @@ use Rattle.pq_planning.specs.Planning.{PlannedDefinition, arranged_from, explain
 use Rattle.pq_statement.specs.Readings.{reading_of}
 use Rattle.pq_statement.specs.Requests.{RunsAs, reading_asked}
 use Rattle.pq_statement.proofs.Asking.{asking_refused, explains, may_be_defined, prepares, selects, stopped_explained}
+use Rattle.pq_text.specs.Tokens.{tokens_of}
 use Rattle.pq_statement.proofs.requests.asked_by.Goals as goal
 
 pub returns-in-Create-clause-asks : goal.returns-in-Create-clause-asks
-returns-in-Create-clause-asks c = rw c.in-Create.is (subst (IsNamedStatement c.args.tokens.now) c.in-Create.is c.requires.named, refl)
+returns-in-Create-clause-asks c = rw c.in-Create.is (subst (IsNamedStatement (tokens_of c.args.text.now)) c.in-Create.is c.requires.named, refl)
 
 pub returns-in-Alter-clause-asks : goal.returns-in-Alter-clause-asks
-returns-in-Alter-clause-asks c = rw c.in-Alter.is (subst (IsNamedStatement c.args.tokens.now) c.in-Alter.is c.requires.named, refl)
+returns-in-Alter-clause-asks c = rw c.in-Alter.is (subst (IsNamedStatement (tokens_of c.args.text.now)) c.in-Alter.is c.requires.named, refl)
 
 pub returns-in-Counter-clause-asks : goal.returns-in-Counter-clause-asks
-returns-in-Counter-clause-asks c = rw c.in-Counter.is (subst (IsNamedStatement c.args.tokens.now) c.in-Counter.is c.requires.named, refl)
+returns-in-Counter-clause-asks c = rw c.in-Counter.is (subst (IsNamedStatement (tokens_of c.args.text.now)) c.in-Counter.is c.requires.named, refl)
 
 pub returns-in_err-read-in-Read-clause-refused : goal.returns-in_err-read-in-Read-clause-refused
 returns-in_err-read-in-Read-clause-refused c =
@@ -37,25 +38,25 @@ returns-in_err-plan-in-Prepare-clause-refused c =
 
 pub returns-in_ok-plan-in-Prepare-clause-asks : goal.returns-in_ok-plan-in-Prepare-clause-asks
 returns-in_ok-plan-in-Prepare-clause-asks c =
-    let named = subst (IsNamedStatement c.args.tokens.now) c.in-Prepare.is c.requires.named in
+    let named = subst (IsNamedStatement (tokens_of c.args.text.now)) c.in-Prepare.is c.requires.named in
     let e = c.in_ok-plan-in-Prepare.ensures in
     rw c.in-Prepare.is (
-      may_be_defined c.args.catalog.now c.in-Prepare.name c.args.text.now c.args.tokens.now c.in-Prepare.from _ named.0 e.planned e.free,
-      prepares c.args.catalog.now c.in-Prepare.name c.args.text.now c.args.tokens.now c.in-Prepare.from _ e.planned e.free,
+      may_be_defined c.args.catalog.now c.in-Prepare.name c.args.text.now (tokens_of c.args.text.now) c.in-Prepare.from _ named.0 e.planned e.free,
+      prepares c.args.catalog.now c.in-Prepare.name c.args.text.now (tokens_of c.args.text.now) c.in-Prepare.from _ e.planned e.free,
     )
 
 pub returns-in_err-plan-in-Explain-clause-refused : goal.returns-in_err-plan-in-Explain-clause-refused
 returns-in_err-plan-in-Explain-clause-refused c =
     let p = err_from_is_err_and c.from_residual-in_err-plan-in-Explain.result c.from_residual-in_err-plan-in-Explain.ensures.1 in
-    let refused : Refuses {A = PlannedDefinition} c.in_err-plan-in-Explain.field-0.0 (arranged_from c.args.catalog.now explained_name c.args.text.now c.args.tokens.now c.in-Explain.from) =
+    let refused : Refuses {A = PlannedDefinition} c.in_err-plan-in-Explain.field-0.0 (arranged_from c.args.catalog.now explained_name c.args.text.now (tokens_of c.args.text.now) c.in-Explain.from) =
     rw (← c.in_ok-name-in-Explain.ensures) c.in_err-plan-in-Explain.ensures.refused in
-    rw (p.1, p.2, c.in-Explain.is) (asking_refused Explains _ _ (stopped_explained c.args.catalog.now c.args.text.now c.args.tokens.now c.in-Explain.from _ refused))
+    rw (p.1, p.2, c.in-Explain.is) (asking_refused Explains _ _ (stopped_explained c.args.catalog.now c.args.text.now (tokens_of c.args.text.now) c.in-Explain.from _ refused))
 
 pub returns-in_ok-plan-in-Explain-clause-asks : goal.returns-in_ok-plan-in-Explain-clause-asks
 returns-in_ok-plan-in-Explain-clause-asks c =
-    let planned : IsPlanned c.args.catalog.now explained_name (arranged_from c.args.catalog.now explained_name c.args.text.now c.args.tokens.now c.in-Explain.from) c.in_ok-plan-in-Explain.plan =
+    let planned : IsPlanned c.args.catalog.now explained_name (arranged_from c.args.catalog.now explained_name c.args.text.now (tokens_of c.args.text.now) c.in-Explain.from) c.in_ok-plan-in-Explain.plan =
     rw (← c.in_ok-name-in-Explain.ensures) c.in_ok-plan-in-Explain.ensures.planned in
-    rw c.in-Explain.is (planned.computed_is, explains c.args.catalog.now c.args.text.now c.args.tokens.now c.in-Explain.from _ planned)
+    rw c.in-Explain.is (planned.computed_is, explains c.args.catalog.now c.args.text.now (tokens_of c.args.text.now) c.in-Explain.from _ planned)
 
 pub returns-in_err-run-in-Run-clause-refused : goal.returns-in_err-run-in-Run-clause-refused
 returns-in_err-run-in-Run-clause-refused c =
@@ -75,7 +76,7 @@ returns-in_err-plan-in-Select-clause-refused c =
 pub returns-in_ok-plan-in-Select-clause-asks : goal.returns-in_ok-plan-in-Select-clause-asks
 returns-in_ok-plan-in-Select-clause-asks c =
     let e = c.in_ok-plan-in-Select.ensures in
-    rw c.in-Select.is (selects c.args.catalog.now c.args.text.now c.args.tokens.now _ e.planned e.once)
+    rw c.in-Select.is (selects c.args.catalog.now c.args.text.now (tokens_of c.args.text.now) _ e.planned e.once)
 
 pub returns-in-Write-clause-asks : goal.returns-in-Write-clause-asks
 returns-in-Write-clause-asks c = rw c.in-Write.is c.asked_write.ensures.asks
