@@ -118,6 +118,7 @@ fn read_stop<S: Store<L>, L: Ledger>(
 }
 
 /// What the outermost node of a tree makes of its inputs. A tree without nodes leaves them as they are.
+#[inline(always)]
 pub(crate) fn run_node<S: Store<L>, L: Ledger>(
     alloc: Global,
     request: &Request<'_>,

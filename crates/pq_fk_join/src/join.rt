@@ -166,6 +166,7 @@ fn partner(
 }
 
 /// Adds the input followed by the row that stands at its key, where there is one.
+#[inline(always)]
 fn join_one(
     alloc: Global,
     table: &Table,

@@ -1,5 +1,5 @@
 -- Names and texts are of UTF-8 bytes.
-use Rattle.std.proofs.Common.{◌≡◌, ℕ, Bool, true, false, cond, List, [], ◌∷◌, ◌++◌, ◌||◌, ◌==◌, length, drop, get_or, ◌+◌, ◌<◌, ◌≤◌, add-one, nat_le, Option, Some, None, Result, Ok, Err, arith, refl, sym, ap}
+use Rattle.std.proofs.Common.{◌≡◌, ℕ, Bool, true, false, cond, List, [], ◌∷◌, ◌++◌, ◌||◌, ◌==◌, length, drop, get_or, ◌+◌, ◌<◌, ◌≤◌, add-one, nat_le, nat_lt, zero, suc, ◌&&◌, Option, Some, None, Result, Ok, Err, arith, refl, sym, ap}
 use Rattle.std.specs.Prelude.{IsUtf8, IsAscii, MatchOption, MatchResult}
 use Rattle.std.specs.Str.{is_utf8}
 use Rattle.std.proofs.lemmas.Str.{IsUtf8-from_is_utf8, is_utf8-from_IsUtf8, IsUtf8-from_ascii}
@@ -12,7 +12,7 @@ use Rattle.std.proofs.lemmas.Bool.{true≢false}
 use Rattle.std.proofs.lemmas.Bool.Decides.{nat_tests}
 use Rattle.std.specs.Result.{is_ok}
 use Rattle.pq_shape.specs.Shape as shape
-use Rattle.std.specs.List.{list_any}
+use Rattle.std.specs.List.{list_all, list_any}
 
 none_is : (b : Bool) (bs : List ℕ) → is_utf8 bs ≡ b → (IsUtf8 bs → ⊥) → None ≡ cond b (Some bs) None
 none_is true bs is h = absurd (h (IsUtf8-from_is_utf8 bs is))
@@ -43,8 +43,20 @@ pub undoubled_end : (q : Bool) (i : ℕ) (bs : List ℕ) → length bs ≤ i →
 unfolding undoubled_quotes
 undoubled_end q i bs h = rw (drop_all i bs h) refl
 
-pub lowercase_utf8 : (bs : List ℕ) → IsAscii bs → is_utf8 (lowercase_bytes bs) ≡ true
-lowercase_utf8 bs ascii = is_utf8-from_IsUtf8 (lowercase_bytes bs) (IsUtf8-from_ascii (lowercase_bytes bs) (IsAscii-map to_ascii_lowercase bs lowercase_ascii ascii))
+ascii_step : (b : ℕ) (bs : List ℕ) (low : Bool) → nat_lt b 128 ≡ low → (low && list_all (λ c. nat_lt c 128) bs) ≡ true
+    → (list_all (λ c. nat_lt c 128) bs ≡ true → IsAscii bs) → IsAscii (b ∷ bs)
+ascii_step b bs true is plain rest zero = grind (arith, nat_tests)
+ascii_step b bs true is plain rest (suc i) = rest plain i
+ascii_step b bs false is plain rest i = absurd (true≢false (sym plain))
+
+plain_ascii : (bs : List ℕ) → list_all (λ b. nat_lt b 128) bs ≡ true → IsAscii bs
+plain_ascii [] plain = λ i. omega arith
+plain_ascii (b ∷ bs) plain = ascii_step b bs (nat_lt b 128) refl plain (plain_ascii bs)
+
+pub lowercase_utf8 : (bs : List ℕ) → list_all (λ b. nat_lt b 128) bs ≡ true → is_utf8 (lowercase_bytes bs) ≡ true
+lowercase_utf8 bs plain =
+    let ascii = plain_ascii bs plain in
+    is_utf8-from_IsUtf8 (lowercase_bytes bs) (IsUtf8-from_ascii (lowercase_bytes bs) (IsAscii-map to_ascii_lowercase bs lowercase_ascii ascii))
 
 pub named_word : (bs : List ℕ) → length bs ≤ 32 → is_utf8 (lowercase_bytes bs) ≡ true → name_shape bs ≡ shape.Name (lowercase_bytes bs)
 unfolding utf8_text

@@ -41,6 +41,7 @@ impl<'a> Model for Cursor<'a> {
 }
 
 /// The first of these tokens, and those behind it.
+#[inline(always)]
 fn following<'a>(text: &'a [u8], tokens: Behind<'a>) -> (Option<Next<'a>>, Behind<'a>)
     requires { IsWithin text.now tokens }
     ensures shapes { shapes_left text.now result.0 result.1 ≡ shapes_of text.now (tokens_behind text.now tokens.entry) }
@@ -128,6 +129,7 @@ impl<'a> Cursor<'a> {
     }
 
     /// Goes over the next token, if there is one.
+    #[inline(always)]
     fn pass(&mut self)
         ensures { self.new ≡ drop 1 self.old }
     {

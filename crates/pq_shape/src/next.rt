@@ -1,5 +1,6 @@
 //! The next token, seen as what it stands for.
-ghost use Rattle.std.specs.Prelude.{◌≡◌, ◌<◌, ◌≤◌, ℕ, Some, None, IfOk, OnOk, MatchOption, length, map, ◌++◌, slice_range, slice_index, slice_get, bytes_eq, ◌-◌, false};
+ghost use Rattle.std.specs.Prelude.{◌≡◌, ◌<◌, ◌≤◌, ℕ, Some, None, IfOk, OnOk, MatchOption, length, map, ◌++◌, slice_range, slice_index, slice_get, bytes_eq, nat_lt, ◌-◌, false};
+ghost use Rattle.std.specs.List.{list_all};
 ghost use Rattle.std.specs.Str.{is_utf8};
 ghost use Rattle.pq_base.specs.Words.{uppercase_byte, keywords};
 ghost use Rattle.pq_shape.specs.Cursors.{shape_seen, IsNamed};
@@ -172,13 +173,20 @@ fn gathered(bytes: Bytes) -> Option<PText>
     PText::from_vec(bytes.into_vec())
 }
 
+/// Whether all bytes are of ASCII.
+fn is_plain(bytes: &[u8]) -> bool
+    ensures { result ≡ list_all (λ b. nat_lt b 128) bytes.now }
+{
+    bytes.iter().all(|byte| *byte < 128)
+}
+
 /// Whether the bytes in small letters are UTF-8.
 #[tactic(auto, using(crate::proofs::Made::lowercase_utf8))]
 fn is_lowered_utf8(bytes: &[u8]) -> bool
     requires { length bytes.now ≤ 32 }
     ensures { result ≡ is_utf8 (lowercase_bytes bytes.now) }
 {
-    if bytes.is_ascii() {
+    if is_plain(bytes) {
         return true;
     }
     let mut room = [0; 32];
@@ -189,6 +197,7 @@ fn is_lowered_utf8(bytes: &[u8]) -> bool
 }
 
 /// What a word is.
+#[inline(always)]
 fn word(bytes: &[u8]) -> Sort
     ensures shape { shape_seen result bytes.now ≡ word_shape bytes.now }
     ensures named { IsNamed result bytes.now }
@@ -264,6 +273,7 @@ fn mark(bytes: &[u8]) -> u16
 
 impl<'a> Next<'a> {
     /// This token of a text.
+    #[inline(always)]
     #[tactic(auto, unfolding(crate::specs::Shapes::shape_of))]
     pub fn new(text: &'a [u8], token: Token) -> Next<'a>
         ensures { result ≡ shape_of text.now token }

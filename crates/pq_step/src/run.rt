@@ -31,6 +31,7 @@ fn row_lines(alloc: Global, rows: List<Row>) -> Result<List<Line>, NoMem>
 }
 
 /// The report of a page, or of an answer that no page follows.
+#[inline(always)]
 pub(crate) fn page_report(alloc: Global, number: u32, page: Page) -> Result<Report, NoMem>
     requires { length page.rows < 4294967296 }
     ensures { IfOk result (λ report. report ≡ page_report number page) }
@@ -52,6 +53,7 @@ pub(crate) fn page_report(alloc: Global, number: u32, page: Page) -> Result<Repo
 }
 
 /// Runs the query of this definition's number, whose parameters fit, behind a position.
+#[inline(always)]
 pub(crate) fn run_query<S: Store<L>, L: Ledger>(
     alloc: Global,
     planned: PlannedCatalog,

@@ -178,6 +178,7 @@ fn token_start(text: &[u8], from: usize) -> usize
 }
 
 /// The first token of a text from a place on.
+#[inline(always)]
 pub fn next_token(text: &[u8], from: usize) -> Option<Token>
     requires limit { length text.now ≤ text_limit }
     requires within { from ≤ length text.now }
