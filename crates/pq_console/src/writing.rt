@@ -9,7 +9,7 @@ use crate::outside::{Failed, Sink, write_all};
 use crate::stop::Stop;
 use pq_base::{Bytes, List, NoMem};
 use pq_fill::{Summary, print_summary};
-use pq_print::{Opened, Report, print_damage, print_opening, print_report};
+use pq_print::{Opened, Report, print_damage, print_opening, report_bytes};
 use std::alloc::Global;
 
 /// Writes a text.
@@ -30,9 +30,8 @@ pub fn write_report<O: Sink>(alloc: Global, report: &Report, sink: &mut O) -> Re
     ensures err { IfErr result (λ stop. CutsOff stop (printed_report report.now) (O.held sink.old) (O.held sink.new)) }
     ensures causes { Causes 0 0 (O.faults sink.old) (O.faults sink.new) result }
 {
-    let mut text = List::new(alloc);
-    match print_report(alloc, report, &mut text) {
-        Ok(()) => write_text(&text, sink),
+    match report_bytes(alloc, report) {
+        Ok(text) => write_text(&text, sink),
         Err(NoMem) => Err(Stop::NoMem),
     }
 }

@@ -6,6 +6,7 @@
 
 mod added;
 mod canonical;
+mod costs;
 mod counter;
 mod names;
 mod number;
@@ -18,7 +19,7 @@ mod table;
 mod value;
 
 pub use canonical::print_definition;
-pub use print::{print_damage, print_opening, print_report};
+pub use print::{print_damage, print_opening, print_report, report_bytes};
 pub use query::print_query;
 pub use refusal::put_refusal;
 pub use report::{End, IndexCol, Line, Opened, Report};

@@ -1,8 +1,9 @@
 //! Reports, openings and damage as text.
-ghost use Rattle.std.specs.Prelude.{◌≡◌, ◌<◌, ◌≤◌, ◌++◌, OnOk, OnErr, flat_map, string_bytes};
+ghost use Rattle.std.specs.Prelude.{◌≡◌, ◌<◌, ◌≤◌, ◌++◌, IfOk, OnOk, OnErr, flat_map, string_bytes};
 ghost use Rattle.std.specs.Char.{digit_char};
-ghost use Rattle.pq_print.specs.Report.{bound_text, used_text, choice_text, dir_text, index_col_text, line_text, line_of, next_text, end_text, end_line, printed_report, opening_line, hex, damage_line, is_refusal};
+ghost use Rattle.pq_print.specs.Report.{bound_text, used_text, choice_text, dir_text, index_col_text, line_text, line_of, next_text, end_text, printed_report, opening_line, hex, damage_line, is_refusal};
 
+use crate::costs::with_costs;
 use crate::number::put_number;
 use crate::part::{Part, put_each, put_separated};
 use crate::refusal::{put_in_batch, put_refusal};
@@ -11,7 +12,7 @@ use crate::value::put_row;
 use pq_base::{Bound, Bytes, Choice, Dir, NoMem, PText, Used};
 use std::alloc::{AllocError, Global};
 
-fn put_bound(bound: Bound, out: &mut String) -> Result<(), AllocError>
+pub fn put_bound(bound: Bound, out: &mut String) -> Result<(), AllocError>
     ensures { OnOk result (string_bytes out.new ≡ string_bytes out.old ++ bound_text bound) }
 {
     out.push_str(" bound ")?;
@@ -20,7 +21,7 @@ fn put_bound(bound: Bound, out: &mut String) -> Result<(), AllocError>
     put_number(out, bound.entries)
 }
 
-fn put_used(used: Used, out: &mut String) -> Result<(), AllocError>
+pub fn put_used(used: Used, out: &mut String) -> Result<(), AllocError>
     ensures { OnOk result (string_bytes out.new ≡ string_bytes out.old ++ used_text used) }
 {
     out.push_str(" used ")?;
@@ -137,16 +138,6 @@ fn put_end(end: &End, out: &mut String) -> Result<(), AllocError>
     }
 }
 
-fn put_end_line(report: &Report, out: &mut String) -> Result<(), AllocError>
-    ensures { OnOk result (string_bytes out.new ≡ string_bytes out.old ++ end_line report.now) }
-{
-    put_number(out, report.number)?;
-    put_end(&report.end, out)?;
-    put_bound(report.bound, out)?;
-    put_used(report.used, out)?;
-    out.push_str("\n")
-}
-
 impl Report {
     /// Whether the statement was refused.
     pub fn is_refusal(&self) -> bool
@@ -167,16 +158,25 @@ fn text_room(lines: usize) -> usize
 }
 
 #[tactic(auto, unfolding(crate::specs::Report::printed_report))]
+/// The report's lines and its end line.
+pub fn report_bytes(alloc: Global, report: &Report) -> Result<Bytes, NoMem>
+    ensures { IfOk result (λ bytes. bytes ≡ printed_report report.now) }
+{
+    let lines = report.lines.items();
+    let mut text = String::with_capacity(alloc, text_room(lines.len()))?;
+    put_each(lines, &(), "", &mut text)?;
+    put_number(&mut text, report.number)?;
+    put_end(&report.end, &mut text)?;
+    with_costs(text, report.bound, report.used)
+}
+
 /// Appends the report's lines and its end line. After `NoMem` the bytes are as before.
 pub fn print_report(alloc: Global, report: &Report, out: &mut Bytes) -> Result<(), NoMem>
     ensures ok { OnOk result (out.new ≡ out.old ++ printed_report report.now) }
     ensures err { OnErr result (out.new ≡ out.old) }
 {
-    let lines = report.lines.items();
-    let mut text = String::with_capacity(alloc, text_room(lines.len()))?;
-    put_each(lines, &(), "", &mut text)?;
-    put_end_line(report, &mut text)?;
-    out.extend_text(alloc, text)
+    let bytes = report_bytes(alloc, report)?;
+    out.extend(alloc, bytes.items())
 }
 
 #[tactic(auto, unfolding(crate::specs::Report::opening_line))]
