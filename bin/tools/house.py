@@ -13,6 +13,8 @@ TESTS = re.compile(r"pq_tests?_|pq_cases$|piql_examples$")
 FUNCTION = re.compile(r"^\s*(?:pub(?:\([a-z]+\))? )?(?:const |unsafe |final )*fn (\w+)", re.MULTILINE)
 CLAUSE = re.compile(r"^\s*(?:ensures|requires)\b")
 MANY_PARAMETERS = 8
+# How many clauses are listed.
+MOST_DOUBLES = 40
 # Phrases that loose stores and catalogs leave in clauses.
 PHRASES = ("S.content store.", "catalog.now.tables")
 OPENING, CLOSING = "([{<", ")]}>"
@@ -98,12 +100,21 @@ def sources(repository: Repository) -> list[pathlib.Path]:
     return [path for name in crates for path in sorted((repository.folder(name) / "src").rglob("*.rt"))]
 
 
+def all_functions(repository: Repository) -> list[Function]:
+    """The functions of all crates but those of tests."""
+    return [function for path in sources(repository) for function in functions_of(path)]
+
+
+def clauses_of(functions: Iterable[Function]) -> collections.Counter[str]:
+    """The clauses of functions, and how often each stands there."""
+    return collections.Counter(clause for function in functions for clause in function.clauses)
+
+
 def counts(repository: Repository) -> dict[str, int]:
     """The counts by what they are of."""
-    paths = sources(repository)
-    functions = [function for path in paths for function in functions_of(path)]
-    clauses = collections.Counter(clause for function in functions for clause in function.clauses)
-    texts = [path.read_text() for path in paths]
+    functions = all_functions(repository)
+    clauses = clauses_of(functions)
+    texts = [path.read_text() for path in sources(repository)]
     found = {
         "crates": len(repository.uses),
         "functions": len(functions),
@@ -120,8 +131,7 @@ def counts(repository: Repository) -> dict[str, int]:
 
 def heaviest(repository: Repository) -> list[str]:
     """A line for each function with many parameters, those with most first."""
-    functions = [function for path in sources(repository) for function in functions_of(path)]
-    many = sorted(functions, key=lambda it: (-len(it.parameters), str(it.place)))
+    many = sorted(all_functions(repository), key=lambda it: (-len(it.parameters), str(it.place)))
     return [
         f"{len(function.parameters)} {function.place.relative_to(repository.top)} {function.name}"
         for function in many
@@ -129,13 +139,21 @@ def heaviest(repository: Repository) -> list[str]:
     ]
 
 
+def doubles(repository: Repository) -> list[str]:
+    """A line for each of the clauses that stand most often, with how often it does."""
+    often = clauses_of(all_functions(repository)).most_common(MOST_DOUBLES)
+    return [f"{number:>7,}  {clause}" for clause, number in often if number > 1]
+
+
 def main(words: list[str]) -> int:
     parser = argparse.ArgumentParser(prog="bin/house", description="Counts functions and clauses of the crates.")
-    parser.add_argument("--many", action="store_true", help="lists the functions with many parameters")
+    lists = parser.add_mutually_exclusive_group()
+    lists.add_argument("--parameters", action="store_true", help="lists the functions with many parameters")
+    lists.add_argument("--doubles", action="store_true", help="lists the clauses that stand most often")
     given = parser.parse_args(words)
     repository = Repository(TOP)
-    if given.many:
-        print("\n".join(heaviest(repository)))
+    if given.parameters or given.doubles:
+        print(*(heaviest(repository) if given.parameters else doubles(repository)), sep="\n")
         return 0
     for name, number in counts(repository).items():
         print(f"{number:>7,}  {name}")

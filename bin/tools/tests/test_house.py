@@ -2,6 +2,7 @@
 
 import pathlib
 import unittest
+import unittest.mock
 
 from tools import house
 from tools.repository import Repository
@@ -101,6 +102,15 @@ class HouseTest(unittest.TestCase):
 
     def test_functions_with_many_parameters_are_listed(self) -> None:
         self.assertEqual(house.heaviest(self.repository), ["8 crates/pq_low/src/lib.rt loose"])
+
+    def test_clauses_that_stand_more_than_once_are_listed_with_their_counts(self) -> None:
+        stands = "ensures same { S.content store.new ≡ S.content store.old }"
+        expected = [f"      2  {stands}", "      2  requires { d < 2 }"]
+        self.assertEqual(sorted(house.doubles(self.repository)), expected)
+
+    def test_no_more_are_listed_than_wanted(self) -> None:
+        with unittest.mock.patch.object(house, "MOST_DOUBLES", 1):
+            self.assertEqual(len(house.doubles(self.repository)), 1)
 
 
 if __name__ == "__main__":
