@@ -14,6 +14,7 @@ HELPED = {
     "layers": "Writes the picture",
     "mutants": "Tries the wrong bodies",
     "names": "Looks up",
+    "numbers": "Compares the numbers",
     "test": "The gate",
 }
 FRAME = "from tools import command; command.run(lambda words: print('x' * 100_000) or 0)"
