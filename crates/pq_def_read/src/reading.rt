@@ -20,8 +20,8 @@ use crate::writes::{any_write, values, writes};
 use pq_base::{List, NoMem, PText, Stopped, Value};
 use pq_grammar::ReadError;
 use pq_shape::{
-    AFTER, AS, CLOSE, CREATE, Cursor, EXPLAIN, OPEN, PREPARE, RUN, SELECT, SEMICOLON, SHOW, Soft, TABLE,
-    syntax,
+    AFTER, AS, CLOSE, CREATE, Cursor, EXPLAIN, OPEN, PREPARE, RUN, SELECT, SEMICOLON, SHOW, Soft,
+    TABLE, syntax,
 };
 use pq_text::{Token, tokens};
 use std::alloc::Global;
