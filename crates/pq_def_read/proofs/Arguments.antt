@@ -1,10 +1,10 @@
 -- Values in parentheses are read by the mark that closes them.
-use Rattle.std.proofs.Common.{◌≡◌, ℕ, Bool, true, false, cond, eqb, List, [], ◌∷◌, length, Option, Some, None, Result, Ok, Err, refl, sym, ap, ◌∙◌}
+use Rattle.std.proofs.Common.{◌≡◌, ℕ, Bool, true, false, cond, eqb, List, [], ◌∷◌, length, Option, Some, None, Result, Ok, Err, refl, ap}
 use Rattle.pq_base.specs.declared.value.Value.{Value}
 use Rattle.pq_base.specs.declared.value.Value.TheVariants as value
 use Rattle.pq_grammar.specs.Reader.{◌>>=◌, begins, option_items, close_at, picked_token}
 use Rattle.pq_shape.specs.declared.keyword.TheConstants.{FALSE, TRUE}
-use Rattle.pq_shape.specs.declared.mark.TheConstants.{CLOSE, COMMA}
+use Rattle.pq_shape.specs.declared.mark.TheConstants.{CLOSE}
 use Rattle.pq_shape.specs.Front.{constant_in, is_constant, is_mark_shape, is_soft_shape, is_value, mark_at, truth_of, value_in, value_shape_at}
 use Rattle.pq_shape.specs.Shape.{Shape}
 use Rattle.pq_shape.specs.Shape as shape

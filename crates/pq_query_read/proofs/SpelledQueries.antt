@@ -1,10 +1,10 @@
 -- A query that reading gives is as texts spell it: names are names, and constants are in their kinds' ranges.
-use Rattle.std.proofs.Common.{◌≡◌, ℕ, ℤ, pos, negsuc, ◌^◌, Bool, true, false, cond, List, [], ◌∷◌, drop, Option, Some, None, Ok, refl, sym, subst, ◌∙◌, inl, inr}
+use Rattle.std.proofs.Common.{◌≡◌, ℕ, ℤ, Bool, true, false, cond, List, [], ◌∷◌, drop, Option, Some, None, Ok, refl, sym, subst, ◌∙◌, inl, inr}
 use Rattle.std.specs.Prelude.{FitsSigned, ◌==◌, zero, suc, length, map, nat_le, unwrap_or}
 use Rattle.std.specs.Int.{w64}
 use Rattle.std.specs.List.{AllByRecursion}
 use Rattle.std.specs.Str.{is_utf8}
-use Rattle.std.proofs.lemmas.Bool.{ltb-true, false≢true}
+use Rattle.std.proofs.lemmas.Bool.{false≢true}
 use Rattle.std.proofs.lemmas.Option.{none-some, same_Some}
 use Rattle.std.proofs.lemmas.Str.{IsUtf8-from_is_utf8}
 use Rattle.pq_base.specs.Values.{IsValue}

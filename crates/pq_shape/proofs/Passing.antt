@@ -1,6 +1,6 @@
 -- A token that is tested, and then gone over.
 use Rattle.std.proofs.Common.{◌≡◌, Bool, true, false, List, [], ◌∷◌, length, drop, Ok, Err, refl}
-use Rattle.pq_grammar.specs.Reader.{begins, test_at, picked_token, test_of}
+use Rattle.pq_grammar.specs.Reader.{begins, test_at}
 use Rattle.pq_shape.specs.Shape.{Shape}
 
 pub test_passes : (p : Shape → Bool) (ts : List Shape) → begins p ts ≡ true → test_at p ts ≡ Ok (tt, drop 1 ts)

@@ -1,4 +1,4 @@
-use Rattle.std.proofs.Common.{◌≡◌, Option, Some, None, sym, ap, ◌∙◌, arith}
+use Rattle.std.proofs.Common.{sym, ap, ◌∙◌, arith}
 use Rattle.pq_shape.specs.Shapes.{keyword_or, name_shape}
 use Rattle.pq_shape.proofs.Made.{named_word, long_word, other_word}
 use Rattle.pq_shape.proofs.next.word.Goals as goal

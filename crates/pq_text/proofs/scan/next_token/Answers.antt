@@ -1,5 +1,5 @@
 use Rattle.std.proofs.Common.{◌≡◌, ◌+◌, ◌<◌, length, drop, get_or, ap, ◌∙◌, arith}
-use Rattle.pq_text.specs.Scanning.{left_out, first_token}
+use Rattle.pq_text.specs.Scanning.{first_token}
 use Rattle.pq_text.proofs.Steps.{token_step, at_end}
 use Rattle.pq_text.proofs.scan.next_token.Goals as goal
 
