@@ -15,7 +15,7 @@ returns-then-bytes-gt-STATEMENT_BYTES-clause-refused c =
 pub returns-in_err-statement-clause-refused : goal.returns-in_err-statement-clause-refused
 returns-in_err-statement-clause-refused c =
     let few : length c.args.text.now ≤ 65536 = rw (← c.bytes.ensures.value) c.if-bytes-gt-STATEMENT_BYTES.false in
-    let p = err_from_is_err_and c.from_residual-in_err-statement.result c.from_residual-in_err-statement.ensures.1 in
+    let p = err_from_is_err_and c.from_residual.result c.from_residual.ensures.1 in
     rw (p.1, p.2) (stopped_reading c.args.catalog.now c.args.text.now (tokens_of c.args.text.now) c.in_err-statement.field-0.0 few refl c.in_err-statement.ensures.stops)
 
 pub asked_by-requires-clause-named : goal.asked_by-requires-clause-named

@@ -1,8 +1,7 @@
-use Rattle.std.proofs.Common.{◌≡◌, ℕ, ◌∙◌, ◌≤◌, ◌<◌, ◌+◌, ◌∷◌, [], Ok, Err, List, Result, length, drop, refl, sym, ap, subst, arith, add-one, drop-cons}
+use Rattle.std.proofs.Common.{◌≡◌, ℕ, ◌∙◌, ◌+◌, ◌∷◌, Ok, Err, List, Result, length, drop, refl, sym, ap, subst, arith, add-one, drop-cons}
 use Rattle.pq_base.specs.Answers.{Answers}
 use Rattle.pq_base.specs.declared.refusal.Refusal.{Refusal}
 use Rattle.pq_base.specs.declared.refusal.Stopped.{Stopped}
-use Rattle.pq_def_read.specs.declared.write.WriteDef.{WriteDef}
 use Rattle.pq_index_keep.specs.Checking.{checked_write}
 use Rattle.pq_index_keep.specs.declared.write.Write.{Write}
 use Rattle.pq_statement.specs.Actions.{Misreads, batch_action}
