@@ -1,6 +1,6 @@
 -- One item, made over the store or for a check.
 use Rattle.std.proofs.Common.{◌≡◌, ℕ, false, true, ◌+◌, ◌≤◌, ◌⊎◌, List, [], ◌∷◌, Option, Some, None, refl, sym, ap, ◌∙◌, subst, arith, inl, inr}
-use Rattle.std.specs.Prelude.{IfSome}
+use Rattle.std.specs.Prelude.{Result, Ok, Err, IfOk, IfErr, IfSome, OnErr}
 use Rattle.std.specs.Io.KnownBytes.{append_known}
 use Rattle.pq_base.specs.declared.number.Used.{Used}
 use Rattle.pq_fill.specs.declared.words.Form.{Form}
@@ -86,7 +86,7 @@ module _ (number : ℕ) (piece : Piece) (s : Schema) (old now : Option Content) 
     passed : PassesItem s (Cut piece) report old now
     passed = record { reads = reads; refused = λ is. ((refused is).0, bare is); kind = kind; tells = tells }
 
-    pub made_over : (f : Form) → HasOpening f → MakesItem f (Cut piece) number s next old now before after report
+    made_over : (f : Form) → HasOpening f → MakesItem f (Cut piece) number s next old now before after report
     made_over Run some = record {
       is = record { number_is = numbered; bound_is = bound; few_ops = few_ops; few_entries = few_entries; unread_is = unread; can = can; defined_is = defined_behind };
       next_is = next_is;
@@ -121,13 +121,35 @@ module _ (number : ℕ) (piece : Piece) (s : Schema) (old now : Option Content) 
       Stopped-at f (stops.Damaged damage) s (moment old held before) (moment now held after) number (Cut piece ∷ []) [] (sym (append_known-none held)) (some, refl, within) shown answered (both_told old _ _ kept rows) (λ m is. absurd (sound m is)) own
 
   -- the session broke off at this item
-  pub broke_over : {answers : List ℕ → Option (List ℕ) → Type 0} (f : Form) (error : Broke) → HasOpening f → ((m : Model) → Stands old s m → Opens now m ⊎ Opens now (step m number piece).model) → ((m : Model) → Stands old s m → IsUndamaged error)
+  broke_over : {answers : List ℕ → Option (List ℕ) → Type 0} (f : Form) (error : Broke) → HasOpening f → ((m : Model) → Stands old s m → Opens now m ⊎ Opens now (step m number piece).model) → ((m : Model) → Stands old s m → IsUndamaged error)
       → IsWithinFixed (statement_bound s piece) before after → IfSome now (λ content. TellsEvidenceFor (action_of s piece) s content error)
       → ((m : Model) → Stands old s m → TakesAtMost (step m number piece).report.bound before after)
       → KeepsDamaged s (action_of s piece) old now error → IfSome old (λ content. LeavesAsked s (action_of s piece) content now) → IfSome old (λ content. IsWithinAsked (action_of s piece) content before after) → IsAnsweredBut (AnswersFor s (action_of s piece) answers) (next_key s) error → BreaksAt answers f (stop_of_broke error) (Cut piece) number s old now before after
   broke_over Run error some stops_at sound within shown own kept left rows answered = broke_at Run error some stops_at sound within shown own kept left rows answered
   broke_over Check error some stops_at sound within shown own kept left rows answered = absurd some
   broke_over (Fill n) error some stops_at sound within shown own kept left rows answered = broke_at (Fill n) error some stops_at sound within shown own kept left rows answered
+
+  -- the session made this item, or broke off at it
+  pub over_result : (answers : List ℕ → Option (List ℕ) → Type 0) (f : Form) → HasOpening f → (result : Result (Schema × Report) Broke)
+      → IfOk result (λ p. p.1.number ≡ number) → IfOk result (λ p. IsBound (statement_bound s piece) p.1.bound)
+      → IfOk result (λ p. p.1.used.ops ≤ p.1.bound.ops) → IfOk result (λ p. p.1.used.entries ≤ p.1.bound.entries) → IfOk result (λ p. p.0 ≡ schema_after s piece p.1)
+      → IfOk result (λ p. (m : Model) → Stands old s m → Matches (step m number piece).report p.1) → IfOk result (λ p. (m : Model) → Stands old s m → Stands now p.0 (step m number piece).model)
+      → IfOk result (λ p. after.ops ≡ before.ops + p.1.used.ops) → IfOk result (λ p. after.entries ≡ before.entries + p.1.used.entries)
+      → IfOk result (λ p. IsUnread number (action_of s piece) p.1) → IfOk result (λ p. CanEnd s (action_of s piece) p.1.end)
+      → IfOk result (λ p. IsRefusal p.1.end → (now ≡ old) × (p.0 ≡ s)) → (OnlyReads (action_of s piece) → now ≡ old)
+      → IfOk result (λ p. (written : Query) → IsPrepareOf s written piece → is_refusal p.1 ≡ false → IsDefinedAs s.tables written p.0)
+      → IfOk result (λ p. (IsRefusal p.1.end → ⊥) → IfSome old (λ content. MakesAsked s (action_of s piece) content now p.1)) → IfOk result (λ p. (IsRefusal p.1.end → ⊥) → TellsAsked s (action_of s piece) p.1)
+      → IfOk result (λ p. IsRefusal p.1.end → p.1.lines ≡ [])
+      → OnErr result ((m : Model) → Stands old s m → Opens now m ⊎ Opens now (step m number piece).model) → IfErr result (λ error. (m : Model) → Stands old s m → IsUndamaged error)
+      → OnErr result (IsWithinFixed (statement_bound s piece) before after) → IfErr result (λ error. IfSome now (λ content. TellsEvidenceFor (action_of s piece) s content error))
+      → ((m : Model) → Stands old s m → TakesAtMost (step m number piece).report.bound before after)
+      → IfErr result (KeepsDamaged s (action_of s piece) old now) → OnErr result (IfSome old (λ content. LeavesAsked s (action_of s piece) content now))
+      → OnErr result (IfSome old (λ content. IsWithinAsked (action_of s piece) content before after)) → IfErr result (IsAnsweredBut (AnswersFor s (action_of s piece) answers) (next_key s))
+      → IfOk result (λ p. MakesItem f (Cut piece) number s p.0 old now before after p.1) × IfErr result (λ error. BreaksAt answers f (stop_of_broke error) (Cut piece) number s old now before after)
+  over_result answers f some (Ok p) numbered bound few_ops few_entries next_is matches made ops entries unread can refused reads defined tells kind bare stops_at sound within shown own kept left rows answered =
+      (made_over p.0 p.1 numbered bound few_ops few_entries next_is matches made ops entries unread can refused reads defined tells kind bare f some, tt)
+  over_result answers f some (Err error) numbered bound few_ops few_entries next_is matches made ops entries unread can refused reads defined tells kind bare stops_at sound within shown own kept left rows answered =
+      (tt, broke_over f error some stops_at sound within shown own kept left rows answered)
 
 -- ---- for a check
 

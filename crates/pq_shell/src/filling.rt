@@ -75,7 +75,10 @@ pub fn fill_store<S: Store<L>, L: Ledger>(
         };
         let piece = Piece::Statement(text);
         made += 1;
-        let (next, report) = make(alloc, Form::Fill(n), session, made, &piece, store, meter)?;
+        let (next, report) = match make(alloc, Form::Fill(n), session, made, &piece, store, meter) {
+            Ok(stepped) => stepped,
+            Err(broke) => return Err(Stop::of(broke)),
+        };
         session = next;
         filled.note(kind, &report);
     }

@@ -6,7 +6,8 @@ ghost use Rattle.pq_shell.specs.Fold.{ServedItems, StoppedItem};
 ghost use Rattle.pq_shell.specs.Items.{Cut, cut_items};
 ghost use Rattle.pq_shell.specs.Making.{BreaksAt, ReadsSource, MakesItem, moment};
 ghost use Rattle.pq_shell.specs.Serving.{ProgressedRun, ReportsRest, StoppedAtRest, has_rest, rest_report};
-ghost use Rattle.pq_console.specs.Stops.{Causes};
+ghost use Rattle.pq_console.specs.Stops.{Causes, stop_of_broke};
+ghost use Rattle.pq_store.specs.Content.{HasBrokeCause};
 
 use pq_base::{Bound, List, NoMem, Refusal, Used};
 use pq_catalog::PlannedCatalog;
@@ -15,7 +16,7 @@ use pq_console::{Ending, Sink, Stop, write_report};
 use pq_fill::Form;
 use pq_print::{End, Report};
 use pq_step::statement;
-use pq_store::{Meter, Store};
+use pq_store::{Broke, Meter, Store};
 use pq_text::{Piece, Splitter};
 use std::alloc::Global;
 use std::sync::ledger::Ledger;
@@ -81,23 +82,20 @@ pub fn make<S: Store<L>, L: Ledger>(
     piece: &Piece,
     store: &mut S,
     meter: &mut Meter<L>,
-) -> Result<(PlannedCatalog, Report), Stop>
+) -> Result<(PlannedCatalog, Report), Broke>
     ensures ok { IfOk result (λ p. MakesItem form (Cut piece.now) number session p.0 (S.content store.old)
         (S.content store.new) meter.old meter.new p.1) }
-    ensures err { IfErr result (λ stop. BreaksAt S.answers form stop (Cut piece.now) number session
+    ensures err { IfErr result (λ broke. BreaksAt S.answers form (stop_of_broke broke) (Cut piece.now) number session
         (S.content store.old) (S.content store.new) meter.old meter.new) }
     ensures unmoved { form ≡ Form.Check → (store.new ≡ store.old) × (meter.new ≡ meter.old) }
-    ensures causes { Causes (S.faults store.old) (S.faults store.new) 0 0 result }
+    ensures cause { HasBrokeCause (S.faults store.old) (S.faults store.new) result }
 {
     match form {
         Form::Check => match check(alloc, session, number, piece) {
             Ok(made) => Ok(made),
-            Err(NoMem) => Err(Stop::NoMem),
+            Err(NoMem) => Err(Broke::NoMem),
         },
-        Form::Run | Form::Fill(_) => match statement(alloc, session, number, piece, store, meter) {
-            Ok(made) => Ok(made),
-            Err(broke) => Err(Stop::of(broke)),
-        },
+        Form::Run | Form::Fill(_) => statement(alloc, session, number, piece, store, meter),
     }
 }
 
@@ -127,10 +125,14 @@ pub fn serve<S: Store<L>, O: Sink, L: Ledger>(
     ensures causes { Causes (S.faults store.old) (S.faults store.new) (O.faults sink.old) (O.faults sink.new) result }
 {
     let number = tally.count + 1;
-    let (next, report) = make(alloc, form, session, number, piece, store, meter)?;
-    write_report(alloc, &report, sink)?;
-    *tally = tally.with(report.is_refusal());
-    Ok(next)
+    match make(alloc, form, session, number, piece, store, meter) {
+        Ok(made) => {
+            write_report(alloc, &made.1, sink)?;
+            *tally = tally.with(made.1.is_refusal());
+            Ok(made.0)
+        }
+        Err(broke) => Err(Stop::of(broke)),
+    }
 }
 
 /// Cuts a part of a script, and makes and reports the pieces that end in it.

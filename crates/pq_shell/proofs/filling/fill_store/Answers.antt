@@ -1,6 +1,5 @@
 use Rattle.std.proofs.Common.{◌≡◌, Some, None, rules, refl, arith, sym, ◌∙◌}
 use Rattle.std.specs.Prelude.{slice_get}
-use Rattle.std.proofs.lemmas.Result.{err_from_is_err_and}
 use Rattle.pq_fill.proofs.Places.{kinds_long}
 use Rattle.pq_fill.specs.Script.{fill_kinds, fill_script}
 use Rattle.pq_shell.proofs.Filled.{none_filled, filled_next, stopped_next, stopped_before, all_filled, never_past, few_statements}
@@ -19,12 +18,11 @@ pub unreachable-requires-in_default-fill_kind : goal.unreachable-requires-in_def
 unreachable-requires-in_default-fill_kind g c =
     never_past (fill_kinds c.args.n) c.loop-made.made (omega (arith, c.loop-made-test.true, c.fill_count-count.ensures, kinds_long c.args.n)) (sym c.fill_kind.ensures ∙ c.in_default-fill_kind.is)
 
-pub returns-in_err-next-clause-err : goal.returns-in_err-next-clause-err
-returns-in_err-next-clause-err g c =
-    let p = err_from_is_err_and c.from_residual.result c.from_residual.ensures.1 in
+pub returns-in-Err-make-clause-err : goal.returns-in-Err-make-clause-err
+returns-in-Err-make-clause-err g c =
     let text : slice_get (fill_script c.args.n) c.loop-made.made ≡ Some c.in-Some.text = sym c.in-Ok.ensures ∙ c.in-Some.is in
     let kind : slice_get (fill_kinds c.args.n) c.loop-made.made ≡ Some c.in-Some-fill_kind.kind = sym c.fill_kind.ensures ∙ c.in-Some-fill_kind.is in
-    rw (p.1, p.2) (λ held. stopped_next c.args.n c.loop-made.made c.in-Some.text c.in-Some-fill_kind.kind text kind c.args.used _ _ _ _ _ _ held _ _ _ (c.loop-made.invariant.so_far held) c.in_err-next.ensures.err)
+    rw c.of.ensures (λ held. stopped_next c.args.n c.loop-made.made c.in-Some.text c.in-Some-fill_kind.kind text kind c.args.used _ _ _ _ _ _ held _ _ _ (c.loop-made.invariant.so_far held) c.in-Err-make.ensures.err)
 
 pub note-requires : goal.note-requires
 note-requires g c =
@@ -39,17 +37,17 @@ loop-made-preserved g c =
     record {
       within = search rules;
       store_later = search rules;
-      so_far = λ held. filled_next c.args.n c.loop-made.made c.in-Some.text c.in-Some-fill_kind.kind text kind c.args.used _ _ _ _ _ _ held _ _ _ _ c.in_ok-next.report (c.loop-made.invariant.so_far held) c.in_ok-next.ensures.ok c.note.ensures.summary c.note.ensures.refused;
+      so_far = λ held. filled_next c.args.n c.loop-made.made c.in-Some.text c.in-Some-fill_kind.kind text kind c.args.used _ _ _ _ _ _ held _ _ _ _ c.in-Ok-make.stepped.1 (c.loop-made.invariant.so_far held) c.in-Ok-make.ensures.ok c.note.ensures.summary c.note.ensures.refused;
     }
 
-pub loop-made-preserved-in_ok-next : goal.loop-made-preserved-in_ok-next
-loop-made-preserved-in_ok-next g c =
+pub loop-made-preserved-in-Ok-make : goal.loop-made-preserved-in-Ok-make
+loop-made-preserved-in-Ok-make g c =
     let text : slice_get (fill_script c.args.n) c.loop-made.made ≡ Some c.in-Some.text = sym c.in-Ok.ensures ∙ c.in-Some.is in
     let kind : slice_get (fill_kinds c.args.n) c.loop-made.made ≡ Some c.in-Some-fill_kind.kind = sym c.fill_kind.ensures ∙ c.in-Some-fill_kind.is in
     record {
       within = search rules;
       store_later = search rules;
-      so_far = λ held. filled_next c.args.n c.loop-made.made c.in-Some.text c.in-Some-fill_kind.kind text kind c.args.used _ _ _ _ _ _ held _ _ _ _ c.in_ok-next.report (c.loop-made.invariant.so_far held) c.in_ok-next.ensures.ok c.note.ensures.summary c.note.ensures.refused;
+      so_far = λ held. filled_next c.args.n c.loop-made.made c.in-Some.text c.in-Some-fill_kind.kind text kind c.args.used _ _ _ _ _ _ held _ _ _ _ c.in-Ok-make.stepped.1 (c.loop-made.invariant.so_far held) c.in-Ok-make.ensures.ok c.note.ensures.summary c.note.ensures.refused;
     }
 
 pub returns-clause-ok : goal.returns-clause-ok

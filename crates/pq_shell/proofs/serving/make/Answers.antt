@@ -1,6 +1,6 @@
-use Rattle.std.proofs.Common.{rules, sym, subst, inl, inr}
+use Rattle.std.proofs.Common.{sym, subst, inl, inr}
 use Rattle.pq_shell.specs.Forms.{HasOpening}
-use Rattle.pq_shell.proofs.Making.{made_over, broke_over, made_checked, lost_checked}
+use Rattle.pq_shell.proofs.Making.{over_result, made_checked, lost_checked}
 use Rattle.pq_shell.proofs.serving.make.Goals as goal
 
 pub returns-in-Ok-clause-ok : goal.returns-in-Ok-clause-ok
@@ -10,32 +10,18 @@ returns-in-Ok-clause-ok g c =
 pub returns-in-Err-clause-err : goal.returns-in-Err-clause-err
 returns-in-Err-clause-err g c = rw c.in-Check.is (lost_checked c.args.number c.args.piece.now c.args.session _ _)
 
-pub returns-in-Ok-statement : goal.returns-in-Ok-statement
-returns-in-Ok-statement g c =
+pub returns-in-Run : goal.returns-in-Run
+returns-in-Run g c =
     let some : HasOpening c.args.form = elim c.in-Run.is [
       | inl is ↦ subst HasOpening (sym is) tt
       | inr is ↦ subst HasOpening (sym is.1) tt
     ] in
-    let e = c.in-Ok-statement.ensures in
+    let e = c.statement.ensures in
+    let both = over_result c.args.number c.args.piece.now c.args.session _ _ _ _ g.S.Store.answers c.args.form some c.statement.result e.number e.bound e.few_ops e.few_entries e.next e.matches e.made e.ops e.entries
+    e.unread e.can e.refused e.reads e.arranged e.tells e.kind e.bare e.stopped e.damage e.building e.lasting e.within_own e.kept e.left e.within_rows e.answered in
     record {
-      ok = made_over c.args.number c.args.piece.now c.args.session _ _ _ _ c.in-Ok-statement.made.0 c.in-Ok-statement.made.1 e.number e.bound e.few_ops e.few_entries e.next e.matches e.made e.ops e.entries
-          e.unread e.can e.refused e.reads e.arranged e.tells e.kind e.bare c.args.form some;
-      err = tt;
+      ok = both.0;
+      err = both.1;
       unmoved = λ check. absurd (subst HasOpening check some);
-      causes = search rules;
+      cause = e.cause;
     }
-
-pub returns-in-Err-statement : goal.returns-in-Err-statement
-returns-in-Err-statement g c =
-    let some : HasOpening c.args.form = elim c.in-Run.is [
-      | inl is ↦ subst HasOpening (sym is) tt
-      | inr is ↦ subst HasOpening (sym is.1) tt
-    ] in
-    let e = c.in-Err-statement.ensures in
-    rw c.of.ensures (record {
-      ok = tt;
-      err = broke_over c.args.number c.args.piece.now c.args.session _ _ _ _ c.args.form c.in-Err-statement.broke some e.stopped e.damage e.building e.lasting e.within_own e.kept e.left e.within_rows
-          e.answered;
-      unmoved = λ check. absurd (subst HasOpening check some);
-      causes = search rules;
-    })
