@@ -44,7 +44,6 @@ LIMITS = (
         Declared("pq_statement/requests.rt", "STATEMENT_BYTES"),
         Declared("pq_text/splitter.rt", "is_above_limit", "kept > {}"),
         Declared("pq_text/splitter.rt", "is_above_limit", "more > {} - kept"),
-        Declared("pq_plan_report/plan.rt", "STATEMENT_BYTES"),
         Declared("pq_client_shell/writes.rt", "STATEMENT_BYTES"),
         Declared("pq_text Pieces", "piece_limit"),
         Declared("pq_statement Actions", "asked_text", "(length text) {}"),

@@ -1,11 +1,10 @@
 -- The text of a plan that was computed is that of the plan that is asked for.
-use Rattle.std.proofs.Common.{◌≡◌, ℕ, List, [], ◌++◌, Option, Some, None, Result, Ok, Err, if◌then◌else◌, append_assoc, flat_map, refl, sym, ap, subst, ◌∙◌}
+use Rattle.std.proofs.Common.{◌≡◌, ℕ, List, [], ◌++◌, Result, Ok, Err, ◌⊎◌, inl, inr, if◌then◌else◌, append_assoc, flat_map, refl, sym, ap, subst, ◌∙◌}
 use Rattle.std.specs.Prelude.{OnOk, sum_by}
 use Rattle.pq_base.specs.Answers.{Refuses}
 use Rattle.pq_base.specs.declared.refusal.Refusal.{Refusal}
 use Rattle.pq_base.specs.declared.refusal.Stopped.{Stopped}
 use Rattle.pq_base.specs.declared.refusal.Stopped.TheVariants.{Refused}
-use Rattle.pq_schema.specs.Definitions.{definition_refusal}
 use Rattle.pq_schema.specs.Schema.{Schema}
 use Rattle.pq_schema.specs.Valid.{IsValid}
 use Rattle.pq_schema.proofs.Soundness.{valid_query}
@@ -20,20 +19,18 @@ use Rattle.pq_plan.proofs.PlanTree.{plan_tree}
 use Rattle.pq_plan_lines.specs.Lines.{plan_lines, sum_of}
 use Rattle.pq_plan_lines.specs.Texts.{line_text, rounds_text}
 use Rattle.pq_nodes.specs.Rounds.{node_rounds, plan_rounds}
-use Rattle.pq_text.specs.declared.token.Token.{Token}
-use Rattle.pq_def_read.specs.declared.statement.Statement.{Statement}
-use Rattle.pq_def_read.specs.declared.statement.Statement.TheVariants as statement
-use Rattle.pq_query_read.specs.Trying.{◌>>=◌, passed_unless}
-use Rattle.pq_statement.specs.Actions.{Action, Creates, Adds, Writes, Batches, Misreads, Prepares, Explains, Runs, Counts, Reads, Shows, Selects, action_from, action_of, asked_by}
+use Rattle.pq_statement.specs.Actions.{Action, Creates, Adds, Writes, Batches, Misreads, Prepares, Explains, Runs, Counts, Reads, Shows, Selects, action_from, action_of}
 use Rattle.pq_check.specs.Checks.{check_step, checked_as}
-use Rattle.pq_planning.specs.Planned.{IsComputed, IsPlanned}
+use Rattle.pq_statement.specs.Requests.{Asks, IsPlannedAs, IsRequest}
+use Rattle.pq_statement.specs.declared.requests.Request.{Request}
+use Rattle.pq_statement.specs.declared.requests.Request.TheVariants as request
+use Rattle.pq_planning.specs.Planned.{IsComputed}
 use Rattle.pq_planning.specs.declared.planning.PlannedQuery.{PlannedQuery}
-use Rattle.pq_planning.specs.Planning.{PlannedDefinition, arranged_from, as_it_is, definable, explained_from, explained_name, prepared_from}
+use Rattle.pq_planning.specs.Planning.{PlannedDefinition}
 use Rattle.pq_print.specs.Report.{is_refusal, printed_report}
 use Rattle.pq_print.specs.declared.report.Report.{Report}
 use Rattle.pq_text.specs.declared.piece.Piece.{Piece}
-use Rattle.pq_statement.proofs.Batches.{batch_cases}
-use Rattle.pq_plan_report.specs.Plans.{IsSummed, TellsAsked, TellsFound, asked_plan, lines_of, plan_text}
+use Rattle.pq_plan_report.specs.Plans.{IsSummed, TellsAsked, TellsPlan, TellsPlanned, TellsRequested, asked_plan, lines_of, plan_text}
 use Rattle.pq_plan_report.specs.Told.{report_of, told_piece, told_plan}
 
 -- a query, the plan that was compiled of it, and the plan that was found of the same
@@ -48,11 +45,9 @@ module _ (tables : List Table) (query : Query) (compiled : Compiled) (is : IsCom
   unfolding plan_text
   text_is text told = told ∙ (λ i. flat_map (line_text tables (sym same i) (sym wanted i)) (lines_are i) ++ rounds_text (sum_by node_rounds (nodes_are i)))
 
-  planned_told : plan.chosen.best.bound ≡ cost compiled.plan → (found : Result PlannedDefinition Refusal) → found ≡ Ok plan → (text : List ℕ)
-      → text ≡ flat_map (line_text tables query compiled.wanted) (plan_lines (nodes compiled.plan)) ++ rounds_text (plan_rounds compiled.plan) → sum_of (plan_lines (nodes compiled.plan)) ≡ cost compiled.plan → TellsFound tables found text
-  planned_told bound found there text told sums =
-      subst (λ (f : Result PlannedDefinition Refusal). TellsFound tables f text) (sym there)
-      (record { text_is = text_is text told; sums = ap sum_of (sym lines_are) ∙ sums ∙ sym bound })
+  pub plan_told : plan.chosen.best.bound ≡ cost compiled.plan → (text : List ℕ)
+      → text ≡ flat_map (line_text tables query compiled.wanted) (plan_lines (nodes compiled.plan)) ++ rounds_text (plan_rounds compiled.plan) → sum_of (plan_lines (nodes compiled.plan)) ≡ cost compiled.plan → TellsPlan tables plan text
+  plan_told bound text told sums = record { text_is = text_is text told; sums = ap sum_of (sym lines_are) ∙ sums ∙ sym bound }
 
 -- the plan of a query that was planned is a tree whose lines can be told
 pub computed_tree : (schema : Schema) (computed : PlannedQuery) → IsValid schema → IsComputed schema.tables computed → IsPlanTree computed.compiled.plan
@@ -60,76 +55,60 @@ computed_tree schema computed valid are =
     let made = computed.compiled in
     plan_tree schema.tables computed.query (valid_query schema computed.query valid are.resolved) made.choice (choice_has schema.tables computed.query made.choice are.compiled.plan.candidate) made.plan are.compiled.plan.built
 
--- so is what is told of a query that was found under a name
-pub found_told : (schema : Schema) (name : List ℕ) (found : Result PlannedDefinition Refusal) (computed : PlannedQuery) → IsPlanned schema name found computed → (text : List ℕ)
-    → text ≡ flat_map (line_text schema.tables computed.query computed.compiled.wanted) (plan_lines (nodes computed.compiled.plan)) ++ rounds_text (plan_rounds computed.compiled.plan) → sum_of (plan_lines (nodes computed.compiled.plan)) ≡ cost computed.compiled.plan → TellsFound schema.tables found text
-found_told schema name found computed is text told sums =
-    planned_told schema.tables computed.query computed.compiled is.computed_is.compiled is.plan is.plan_is.query is.plan_is.choice is.plan_is.wanted is.plan_is.bound found is.is text told sums
-
-module _ (schema : Schema) (told : List ℕ) where
-  by_free : (plan : PlannedDefinition) → TellsFound schema.tables (Ok plan) told → (taken : Option Refusal) → TellsAsked schema (action_from Prepares (passed_unless taken >>= as_it_is plan)) told
-  by_free plan tells None = tells
-  by_free plan tells (Some why) = tt
-
-  by_prepared : (found : Result PlannedDefinition Refusal) → TellsFound schema.tables found told → TellsAsked schema (action_from Prepares (found >>= definable schema)) told
-  by_prepared (Ok plan) tells = by_free plan tells (definition_refusal schema plan.query.name)
-  by_prepared (Err why) tells = tt
-
-  by_explained : (found : Result PlannedDefinition Refusal) → TellsFound schema.tables found told → TellsAsked schema (action_from Explains found) told
-  by_explained (Ok plan) tells = tells
-  by_explained (Err why) tells = tt
-
-  pub selected_told : (found : Result PlannedDefinition Refusal) → TellsFound schema.tables found told → TellsAsked schema (action_from Selects found) told
-  selected_told (Ok plan) tells = tells
-  selected_told (Err why) tells = tt
-
-  module _ (text : List ℕ) (tokens : List Token) (from : ℕ) where
-    -- a name that is taken, or one definition too many, is refused behind the plan
-    pub prepared_told : (name : List ℕ) → TellsFound schema.tables (arranged_from schema name text tokens from) told
-        → TellsAsked schema (action_from Prepares (prepared_from schema name text tokens from)) told
-    unfolding prepared_from
-    prepared_told name tells = by_prepared (arranged_from schema name text tokens from) tells
-
-    pub explained_told : TellsFound schema.tables (arranged_from schema explained_name text tokens from) told
-        → TellsAsked schema (action_from Explains (explained_from schema text tokens from)) told
-    unfolding explained_from
-    explained_told tells = by_explained (arranged_from schema explained_name text tokens from) tells
-
--- ---- all that asks for no plan
-
-abbrev pub IsOther : Statement → Type 0
-IsOther (statement.Create def) = Unit {0}
-IsOther (statement.Alter def) = Unit {0}
-IsOther (statement.Prepare name from) = ⊥
-IsOther (statement.Write write) = Unit {0}
-IsOther (statement.Batch writes) = Unit {0}
-IsOther (statement.Explain from) = ⊥
-IsOther (statement.Run name params after) = Unit {0}
-IsOther (statement.Counter def) = Unit {0}
-IsOther (statement.Read name values) = Unit {0}
-IsOther statement.Show = Unit {0}
-IsOther statement.Select = ⊥
-
 module _ (schema : Schema) where
+  -- ---- a request
+
+  -- a query that is prepared, explained or run once
+  abbrev pub HasPlan : Request → PlannedQuery → Type 0
+  HasPlan said computed = (said ≡ request.Prepare computed) ⊎ ((said ≡ request.Explain computed) ⊎ (said ≡ request.Select computed))
+
+  pub planned_is : (said : Request) (computed : PlannedQuery) → HasPlan said computed → IsRequest schema said → IsComputed schema.tables computed
+  planned_is said computed has is = elim has [
+    | inl e ↦ let asks = subst (λ r. Asks schema r is.0) e is.1 in asks.0.computed_is
+    | inr r ↦ elim r [
+      | inl e ↦ let asks = subst (λ r. Asks schema r is.0) e is.1 in asks.0
+      | inr e ↦ let asks = subst (λ r. Asks schema r is.0) e is.1 in asks.0
+    ]
+  ]
+
+  planned_as : (action : PlannedDefinition → Action) (asked : Result Action Refusal) (computed : PlannedQuery) (told : List ℕ) → IsPlannedAs action asked computed
+      → ((plan : PlannedDefinition) → TellsPlan schema.tables plan told → TellsAsked schema (Ok (action plan)) told) → TellsPlanned schema computed told → TellsAsked schema asked told
+  planned_as action asked computed told found tells planned =
+      subst (λ (a : Result Action Refusal). TellsAsked schema a told) (sym found.asks) (tells found.plan (planned found.plan found.plan_is))
+
+  pub planned_told : (said : Request) (computed : PlannedQuery) (told : List ℕ) → HasPlan said computed → TellsPlanned schema computed told → TellsRequested schema said told
+  planned_told said computed told has planned asked asks = elim has [
+    | inl e ↦ planned_as Prepares asked computed told ((subst (λ r. Asks schema r asked) e asks).1) (λ plan tells. tells) planned
+    | inr r ↦ elim r [
+      | inl e ↦ planned_as Explains asked computed told ((subst (λ r. Asks schema r asked) e asks).1) (λ plan tells. tells) planned
+      | inr e ↦ planned_as Selects asked computed told ((subst (λ r. Asks schema r asked) e asks).2) (λ plan tells. tells) planned
+    ]
+  ]
+
   none_told : {A : Type 0} (action : A → Action) (found : Result A Refusal) → ((a : A) → TellsAsked schema (Ok (action a)) []) → TellsAsked schema (action_from action found) []
   none_told action (Ok a) none = none a
   none_told action (Err why) none = tt
 
-  by_other : (text : List ℕ) (tokens : List Token) (read : Statement) → IsOther read → TellsAsked schema (asked_by schema text tokens read) []
-  by_other text tokens (statement.Create def) is = none_told Creates _ (λ _. refl)
-  by_other text tokens (statement.Alter def) is = none_told (λ (next : Schema). Adds def) _ (λ _. refl)
-  by_other text tokens (statement.Prepare name from) is = absurd is
-  by_other text tokens (statement.Write write) is = none_told Writes _ (λ _. refl)
-  by_other text tokens (statement.Batch defs) is = batch_cases schema defs (λ asked. TellsAsked schema asked []) (λ writes. refl) (λ place cause. refl) (λ why. tt)
-  by_other text tokens (statement.Explain from) is = absurd is
-  by_other text tokens (statement.Run name params after) is = none_told Runs _ (λ _. refl)
-  by_other text tokens (statement.Counter def) is = none_told (λ (next : Schema). Counts def) _ (λ _. refl)
-  by_other text tokens (statement.Read name values) is = none_told Reads _ (λ _. refl)
-  by_other text tokens statement.Show is = refl
-  by_other text tokens statement.Select is = absurd is
+  asked_none : (asked is : Result Action Refusal) → asked ≡ is → TellsAsked schema is [] → TellsAsked schema asked []
+  asked_none asked is e tells = subst (λ (a : Result Action Refusal). TellsAsked schema a []) (sym e) tells
 
-  pub other_told : (text : List ℕ) (tokens : List Token) (read : Statement) (told : List ℕ) → IsOther read → told ≡ [] → TellsAsked schema (asked_by schema text tokens read) told
-  other_told text tokens read told is none = subst (TellsAsked schema (asked_by schema text tokens read)) (sym none) (by_other text tokens read is)
+  -- all others ask for no plan
+  by_other : (said : Request) → ((computed : PlannedQuery) → HasPlan said computed → ⊥) → TellsRequested schema said []
+  by_other (request.Create def) none asked asks = asked_none asked _ asks.1 (none_told Creates _ (λ _. refl))
+  by_other (request.Alter def) none asked asks = asked_none asked _ asks.1 (none_told (λ (next : Schema). Adds def) _ (λ _. refl))
+  by_other (request.Write write) none asked asks = asked_none asked _ asks.1 refl
+  by_other (request.Batch writes) none asked asks = asked_none asked _ asks.1 refl
+  by_other (request.Misread place cause) none asked asks = asked_none asked _ asks refl
+  by_other (request.Prepare computed) none asked asks = absurd (none computed (inl refl))
+  by_other (request.Explain computed) none asked asks = absurd (none computed (inr (inl refl)))
+  by_other (request.Run run) none asked asks = asked_none asked _ asks.2 (none_told Runs _ (λ _. refl))
+  by_other (request.Count def) none asked asks = asked_none asked _ asks.1 (none_told (λ (next : Schema). Counts def) _ (λ _. refl))
+  by_other (request.Read read) none asked asks = asked_none asked _ asks.1 refl
+  by_other request.Show none asked asks = asked_none asked _ asks refl
+  by_other (request.Select computed) none asked asks = absurd (none computed (inr (inr refl)))
+
+  pub other_told : (said : Request) (told : List ℕ) → ((computed : PlannedQuery) → HasPlan said computed → ⊥) → told ≡ [] → TellsRequested schema said told
+  other_told said told none is = subst (TellsRequested schema said) (sym is) (by_other said none)
 
   -- nothing is said of what is refused
   pub refused_told : (asked : Result Action Refusal) (why : Refusal) (told : List ℕ) → asked ≡ Err why → TellsAsked schema asked told

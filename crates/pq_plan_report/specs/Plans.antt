@@ -9,7 +9,9 @@ use Rattle.pq_plan_lines.specs.Lines.{plan_lines, sum_of}
 use Rattle.pq_plan_lines.specs.Texts.{line_text, rounds_text}
 use Rattle.pq_plan_lines.specs.declared.node_line.NodeLine.{NodeLine}
 use Rattle.pq_statement.specs.Actions.{Action, Creates, Adds, Writes, Batches, Misreads, Prepares, Explains, Runs, Counts, Reads, Shows, Selects}
-use Rattle.pq_planning.specs.Planned.{IsPlanned}
+use Rattle.pq_statement.specs.Requests.{Asks}
+use Rattle.pq_statement.specs.declared.requests.Request.{Request}
+use Rattle.pq_planning.specs.Planned.{IsPlanOf}
 use Rattle.pq_planning.specs.Planning.{PlannedDefinition}
 use Rattle.pq_planning.specs.declared.planning.PlannedQuery.{PlannedQuery}
 
@@ -71,16 +73,9 @@ pub record TellsPlan (tables : List Table) (plan : PlannedDefinition) (text : Li
   pub text_is : text ≡ plan_text tables plan
   pub sums : SumsToBound tables plan
 
--- the plan that was found, if one was
-abbrev pub TellsFound : List Table → Result PlannedDefinition Refusal → List ℕ → Type 0
-TellsFound tables (Ok plan) text = TellsPlan tables plan text
-TellsFound tables (Err why) text = Unit {0}
-
--- that of a query that was planned, whatever found it
+-- that of a query that was planned
 abbrev pub TellsPlanned : Schema → PlannedQuery → List ℕ → Type 0
-TellsPlanned schema computed text =
-    (name : List ℕ) (found : Result PlannedDefinition Refusal) → IsPlanned schema name found computed
-    → TellsFound schema.tables found text
+TellsPlanned schema computed text = (plan : PlannedDefinition) → IsPlanOf computed plan → TellsPlan schema.tables plan text
 
 -- that of what is asked for, where it is not refused
 abbrev pub TellsAsked : Schema → Result Action Refusal → List ℕ → Type 0
@@ -97,3 +92,7 @@ TellsAsked schema (Ok (Reads reading)) text = text ≡ []
 TellsAsked schema (Ok Shows) text = text ≡ []
 TellsAsked schema (Ok (Selects plan)) text = TellsPlan schema.tables plan text
 TellsAsked schema (Err why) text = Unit {0}
+
+-- that of a request, whatever asked for it
+abbrev pub TellsRequested : Schema → Request → List ℕ → Type 0
+TellsRequested schema request text = (asked : Result Action Refusal) → Asks schema request asked → TellsAsked schema asked text
