@@ -6,10 +6,11 @@ use Rattle.std.proofs.lemmas.List.{length-set}
 use Rattle.std.proofs.lemmas.List.Sums.{sum_by-set, get_or-le-sum_by}
 use Rattle.std.specs.List.{sum_by}
 use Rattle.pq_store.specs.declared.store.Guard.{Guard}
+use Rattle.pq_store.specs.declared.store.Store.{Ghosts}
 use Rattle.pq_store.specs.declared.store.StoreErr.{StoreErr}
 use Rattle.pq_store.specs.Content.{Content, after_write, HasRisen, HasCause}
 use Rattle.pq_parts.specs.declared.part.Part.{Part}
-use Rattle.pq_parts.specs.Asking.{rounds_of}
+use Rattle.pq_parts.specs.Asking.{rounds_of, AsksOnce, AsksNode, AsksNodes}
 use Rattle.pq_parts.specs.Tally.{raised_number}
 use Rattle.pq_parts.specs.Spans.{span_of, spans, joined_content, first_from, firsts, part_has_key, IsPlacement, faults_of}
 use Rattle.pq_parts.proofs.Joined.{linked, has_span, answer_at, with_held, joined_written}
@@ -88,19 +89,21 @@ module _ {S : Type 0} (part new : Part S) (kept : new.from ≡ part.from) (parts
   pub placed_moved : IsPlacement parts → IsPlacement (set parts at new)
   placed_moved placed = subst (λ p. IsPlacement (set parts at p)) (sym moved) (placed_set part new.store parts at here placed)
 
-  pub firsts_moved : firsts (set parts at new) ≡ firsts parts
-  firsts_moved = ap (λ p. firsts (set parts at p)) moved ∙ firsts_set part new.store parts at here
+-- a call of one part's node is one of all parts' nodes
+pub asks_set : {S L : Type 0} (s : Ghosts S L) (part : Part S) (store : S) (parts : List (Part S)) (at : ℕ) → part ≡ get_or parts at part → at < length parts
+    → {A : Type 0} (result : Result A StoreErr) → AsksOnce s part.store store result → AsksNodes s parts (set parts at (with_node part store)) 1 result
+asks_set s part store parts at here within result asks = record {
+  same = same_set part store s.content parts at here asks.same;
+  places = firsts_set part store parts at here;
+  cause = cause_set part store s.faults parts at within here result asks.cause;
+  few = rounds_set part store s.rounds parts at within here asks.round;
+}
 
-  pub same_moved : (content : S → Option Content) → content new.store ≡ content part.store → spans content (set parts at new) ≡ spans content parts
-  same_moved content same = ap (λ p. spans content (set parts at p)) moved ∙ same_set part new.store content parts at here same
-
-  pub cause_moved : (faults : S → ℕ) → at < length parts → {A : Type 0} (result : Result A StoreErr)
-      → HasCause (faults part.store) (faults new.store) result → HasCause (faults_of faults parts) (faults_of faults (set parts at new)) result
-  cause_moved faults within result cause =
-      subst (λ p. HasCause (faults_of faults parts) (faults_of faults (set parts at p)) result) (sym moved) (cause_set part new.store faults parts at within here result cause)
-
-  pub rounds_moved : (rounds : S → ℕ) → at < length parts → rounds new.store ≤ rounds part.store + 1 → rounds_of rounds (set parts at new) ≤ rounds_of rounds parts + 1
-  rounds_moved rounds within once = subst (λ p. rounds_of rounds (set parts at p) ≤ rounds_of rounds parts + 1) (sym moved) (rounds_set part new.store rounds parts at within here once)
+-- the same of a part that begins where the old one does
+pub asks_moved : {S L : Type 0} (s : Ghosts S L) (part new : Part S) (parts : List (Part S)) (at : ℕ) → part ≡ get_or parts at part → at < length parts
+    → {A : Type 0} (result : Result A StoreErr) → AsksNode s part new result → AsksNodes s parts (set parts at new) 1 result
+asks_moved s part new parts at here within result asks =
+    subst (λ p. AsksNodes s parts (set parts at p) 1 result) (sym (moved part new asks.from parts at here)) (asks_set s part new.store parts at here within result asks.node)
 
 -- the span of the part at a place
 pub span_here : {S : Type 0} (content : S → Option Content) (parts : List (Part S)) (at : ℕ) (part : Part S) → at < length parts → part ≡ get_or parts at part

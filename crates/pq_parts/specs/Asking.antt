@@ -1,16 +1,18 @@
 -- What nodes are asked together: each its own questions, whose answers go back to their places.
-use Rattle.std.specs.Prelude.{◌≡◌, ℕ, zero, suc, ◌+◌, ◌&&◌, Bool, true, false, List, [], ◌∷◌, length, map, take, drop, Option, Some, None, IfSome, if◌then◌else◌}
+use Rattle.std.specs.Prelude.{◌≡◌, ℕ, zero, suc, ◌+◌, ◌&&◌, Bool, true, false, List, [], ◌∷◌, length, map, take, drop, Option, Some, None, Result, IfSome, ◌≤◌, if◌then◌else◌}
 use Rattle.std.specs.Ordering.{is_le}
 use Rattle.std.specs.List.{AllByRecursion, sum_by}
 use Rattle.std.specs.FinMap.{get}
 use Rattle.pq_store.specs.declared.store.Ends.{Ends}
 use Rattle.pq_store.specs.declared.store.Pair.{Pair}
+use Rattle.pq_store.specs.declared.store.Store.{Ghosts}
+use Rattle.pq_store.specs.declared.store.StoreErr.{StoreErr}
 use Rattle.pq_store.specs.declared.store.Test.{Test}
 use Rattle.pq_store.specs.declared.store.Test.TheVariants.{Has, Lacks, Full}
-use Rattle.pq_store.specs.Content.{Content, key_cmp, entry, pairs_within, IsPartOf}
+use Rattle.pq_store.specs.Content.{Content, key_cmp, entry, pairs_within, IsPartOf, HasCause}
 use Rattle.pq_parts.specs.declared.part.Part.{Part}
 use Rattle.pq_parts.specs.Clips.{is_key_before}
-use Rattle.pq_parts.specs.Spans.{Span, first_from, part_has_key}
+use Rattle.pq_parts.specs.Spans.{Span, spans, first_from, firsts, faults_of, part_has_key}
 
 -- the answers of what was asked, in the places of what stood there
 abbrev pub put_answers : {Q A : Type 0} → List (Option Q) → List A → List A → List A
@@ -57,6 +59,25 @@ pub record IsGetsAt (spans : List Span) (at : ℕ) (keys old new : List (Option 
 -- how often the nodes were asked together
 abbrev pub rounds_of : {S : Type 0} → (S → ℕ) → List (Part S) → ℕ
 rounds_of rounds parts = sum_by (λ part. rounds part.store) parts
+
+module _ {S L : Type 0} (s : Ghosts S L) where
+  -- a node was asked, at most once: it holds what it held
+  pub record AsksOnce (before after : S) {A : Type 0} (result : Result A StoreErr) : Type 0 where
+    pub same : s.content after ≡ s.content before
+    pub cause : HasCause (s.faults before) (s.faults after) result
+    pub round : s.rounds after ≤ s.rounds before + 1
+
+  -- the node of a part was asked, at most once
+  pub record AsksNode (before after : Part S) {A : Type 0} (result : Result A StoreErr) : Type 0 where
+    pub from : after.from ≡ before.from
+    pub node : AsksOnce before.store after.store result
+
+  -- nodes were asked, at most so often together: each part is where it was and holds what it held
+  pub record AsksNodes (before after : List (Part S)) (rounds : ℕ) {A : Type 0} (result : Result A StoreErr) : Type 0 where
+    pub same : spans s.content after ≡ spans s.content before
+    pub places : firsts after ≡ firsts before
+    pub cause : HasCause (faults_of s.faults before) (faults_of s.faults after) result
+    pub few : rounds_of s.rounds after ≤ rounds_of s.rounds before + rounds
 
 -- the end stands at the other one or before it, where there is one
 abbrev pub is_end_within : List ℕ → Option (List ℕ) → Bool

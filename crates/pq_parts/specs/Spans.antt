@@ -74,6 +74,10 @@ pub record IsPieceOf (span : Span) (low high : List ℕ) (limit : ℕ) (pairs : 
 abbrev pub joined_content : List Span → Option Content
 joined_content spans = option_map from_sorted (concatenation spans)
 
+-- what the nodes of the parts hold together
+abbrev pub content_of : {S : Type 0} → (S → Option Content) → List (Part S) → Option Content
+content_of content parts = joined_content (spans content parts)
+
 -- the first keys in order, as keys of pairs
 abbrev pub firsts : {S : Type 0} → List (Part S) → List (List ℕ × List ℕ)
 firsts parts = map (λ part. (part.from, [])) parts

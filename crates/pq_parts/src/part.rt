@@ -1,8 +1,9 @@
 //! One part: a key and the node that has the keys from there on.
 ghost use Rattle.std.specs.Prelude.{◌≡◌, ◌≤◌, ◌<◌, ◌+◌, ◌*◌, ◌^◌, IfSome, IfOk, OnOk, ◌∷◌, [], filter, map, take, length, min};
-ghost use Rattle.pq_store.specs.Content.{entry, is_within, ranged_entries, counted_entries, HasCause};
+ghost use Rattle.pq_store.specs.Content.{entry, is_within, ranged_entries, counted_entries};
 ghost use Rattle.pq_parts.specs.Tally.{HasAsked};
 ghost use Rattle.pq_parts.specs.Asking as asking;
+ghost use Rattle.pq_parts.specs.Asking.{AsksNode};
 
 use crate::asking::{number_of, put_answers};
 use crate::clip::{earlier, later};
@@ -54,10 +55,7 @@ impl<S> Part<S> {
         ensures part { IfOk result
             (λ found. IsPieceOf (span_of S.content self.old until.now) low.now high.now limit
             (map entry found)) }
-        ensures from { self.new.from ≡ self.old.from }
-        ensures same { S.content self.new.store ≡ S.content self.old.store }
-        ensures cause { HasCause (S.faults self.old.store) (S.faults self.new.store) result }
-        ensures round { S.rounds self.new.store ≤ S.rounds self.old.store + 1 }
+        ensures asks { AsksNode S.Store self.old self.new result }
         ensures tally { HasAsked tally.old tally.new
             (number_met low.now high.now (span_of S.content self.old until.now ∷ [])) limit
             (ranged_entries result) result }
@@ -85,9 +83,7 @@ impl<S> Part<S> {
         ensures answer { IfOk result (λ n. IfSome (own_content (span_of S.content self.old until.now)) (λ mine.
             n ≡ min cap (length (filter (is_within low.now high.now) mine)))) }
         ensures few { IfOk result (λ n. n ≤ cap) }
-        ensures from { self.new.from ≡ self.old.from }
-        ensures same { S.content self.new.store ≡ S.content self.old.store }
-        ensures cause { HasCause (S.faults self.old.store) (S.faults self.new.store) result }
+        ensures asks { AsksNode S.Store self.old self.new result }
         ensures tally { HasAsked tally.old tally.new
             (number_met low.now high.now (span_of S.content self.old until.now ∷ [])) cap
             (counted_entries result) result }
@@ -162,10 +158,7 @@ impl<S> Part<S> {
         requires long { length found.old.items ≡ length keys.now }
         ensures put { OnOk result (asking.AreAnswersPut (asking.IsTold (S.content self.old.store))
             (map (asking.own_key self.old.from until.now) keys.now) found.old.items found.new.items) }
-        ensures from { self.new.from ≡ self.old.from }
-        ensures same { S.content self.new.store ≡ S.content self.old.store }
-        ensures cause { HasCause (S.faults self.old.store) (S.faults self.new.store) result }
-        ensures round { S.rounds self.new.store ≤ S.rounds self.old.store + 1 }
+        ensures asks { AsksNode S.Store self.old self.new result }
     {
         let own = self.own_keys(alloc, keys, until)?;
         if number_of(own.items()) == 0 {
@@ -242,10 +235,7 @@ impl<S> Part<S> {
         requires long { length found.old.items ≡ length asks.now }
         ensures put { OnOk result (asking.AreAnswersPut (asking.ArePairsTold (S.content self.old.store) limit)
             (map (asking.own_ask self.old.from until.now) asks.now) found.old.items found.new.items) }
-        ensures from { self.new.from ≡ self.old.from }
-        ensures same { S.content self.new.store ≡ S.content self.old.store }
-        ensures cause { HasCause (S.faults self.old.store) (S.faults self.new.store) result }
-        ensures round { S.rounds self.new.store ≤ S.rounds self.old.store + 1 }
+        ensures asks { AsksNode S.Store self.old self.new result }
     {
         let own = self.own_asks(alloc, asks, until)?;
         if number_of(own.items()) == 0 {

@@ -7,9 +7,9 @@ ghost use Rattle.pq_store.specs.Counts.{charged_counts, raised_counts};
 ghost use Rattle.pq_store.specs.Rounds.{Affords, Pays, IsValueOf, IsValueAnswered, ArePairsOf, IsPartAsked, one_if_some};
 ghost use Rattle.pq_store.specs.Content.{AreAnswers, entry, pairs_within, after_write, admits, got_entries, ranged_entries, counted_entries, IsPartOf, HasCause};
 ghost use Rattle.pq_parts.specs.Tally.{counted_call, HasAsked};
-ghost use Rattle.pq_parts.specs.Spans.{IsPlacement, part_has_key, first_from, firsts, spans, joined_content, number_met, faults_of};
+ghost use Rattle.pq_parts.specs.Spans.{IsPlacement, part_has_key, first_from, firsts, spans, content_of, number_met, faults_of};
 ghost use Rattle.pq_parts.specs.Gathered.{IsGathered, IsPieceAt, IsCountAt};
-ghost use Rattle.pq_parts.specs.Asking.{IsGetsAt, IsRangesAt, AreFoundBut, ArePairsTold, is_spread, is_end_within, range_calls, spread_calls, rounds_of};
+ghost use Rattle.pq_parts.specs.Asking.{IsGetsAt, IsRangesAt, AreFoundBut, ArePairsTold, is_spread, is_end_within, range_calls, spread_calls, rounds_of, AsksNodes};
 
 use crate::asking::{entries_of, number_of};
 use crate::part::Part;
@@ -95,14 +95,10 @@ impl<S: Store<N>, N: Ledger> PartStore<S, N> {
         high: &[u8],
         limit: u32,
     ) -> Result<List<Pair>, StoreErr>
-        ensures answer { IfOk result (λ found. IfSome (joined_content (spans S.content self.old.parts)) (λ pairs.
+        ensures answer { IfOk result (λ found. IfSome (content_of S.content self.old.parts) (λ pairs.
             map entry found ≡ take limit (pairs_within pairs low.now high.now))) }
         ensures part { IfOk result (λ found. IsPartOf low.now high.now limit (map entry found)) }
-        ensures same { spans S.content self.new.parts ≡ spans S.content self.old.parts }
-        ensures cause { HasCause (faults_of S.faults self.old.parts) (faults_of S.faults self.new.parts) result }
-        ensures places { firsts self.new.parts ≡ firsts self.old.parts }
-        ensures rounds { rounds_of S.rounds self.new.parts
-            ≤ rounds_of S.rounds self.old.parts + length self.old.parts }
+        ensures asks { AsksNodes S.Store self.old.parts self.new.parts (length self.old.parts) result }
         ensures nodes { HasAsked self.old.tally self.new.tally
             (number_met low.now high.now (spans S.content self.old.parts)) limit (ranged_entries result) result }
     {
@@ -135,10 +131,7 @@ impl<S: Store<N>, N: Ledger> PartStore<S, N> {
             high.now limit (map entry found.old)
             → HasAsked before self.new.tally (number_met low.now high.now (spans S.content self.old.parts))
             limit 0 result) }
-        ensures same { spans S.content self.new.parts ≡ spans S.content self.old.parts }
-        ensures cause { HasCause (faults_of S.faults self.old.parts) (faults_of S.faults self.new.parts) result }
-        ensures places { firsts self.new.parts ≡ firsts self.old.parts }
-        ensures round { rounds_of S.rounds self.new.parts ≤ rounds_of S.rounds self.old.parts + 1 }
+        ensures asks { AsksNodes S.Store self.old.parts self.new.parts 1 result }
     {
         let left = limit - found.items().len() as u32;
         match self.range_at(alloc, at, low, high, left) {
@@ -162,10 +155,7 @@ impl<S: Store<N>, N: Ledger> PartStore<S, N> {
         requires { at < length self.old.parts }
         ensures piece { IsPieceAt (spans S.content self.old.parts) at low.now high.now limit self.old.tally
             self.new.tally result }
-        ensures same { spans S.content self.new.parts ≡ spans S.content self.old.parts }
-        ensures cause { HasCause (faults_of S.faults self.old.parts) (faults_of S.faults self.new.parts) result }
-        ensures places { firsts self.new.parts ≡ firsts self.old.parts }
-        ensures round { rounds_of S.rounds self.new.parts ≤ rounds_of S.rounds self.old.parts + 1 }
+        ensures asks { AsksNodes S.Store self.old.parts self.new.parts 1 result }
     {
         match self.end_of(alloc, at) {
             Ok(until) => self.ask_range(alloc, at, low, high, &until, limit),
@@ -187,10 +177,7 @@ impl<S: Store<N>, N: Ledger> PartStore<S, N> {
         requires end { until.now ≡ first_from (drop (at + 1) self.old.parts) }
         ensures piece { IsPieceAt (spans S.content self.old.parts) at low.now high.now limit self.old.tally
             self.new.tally result }
-        ensures same { spans S.content self.new.parts ≡ spans S.content self.old.parts }
-        ensures cause { HasCause (faults_of S.faults self.old.parts) (faults_of S.faults self.new.parts) result }
-        ensures places { firsts self.new.parts ≡ firsts self.old.parts }
-        ensures round { rounds_of S.rounds self.new.parts ≤ rounds_of S.rounds self.old.parts + 1 }
+        ensures asks { AsksNodes S.Store self.old.parts self.new.parts 1 result }
     {
         self.parts[at].range(alloc, low, high, until, limit, &mut self.tally)
     }
@@ -209,12 +196,10 @@ impl<S: Store<N>, N: Ledger> PartStore<S, N> {
 
     // The number of pairs of the range: the parts in order.
     fn total(&mut self, alloc: Global, low: &[u8], high: &[u8], cap: u32) -> Result<u32, StoreErr>
-        ensures answer { IfOk result (λ n. IfSome (joined_content (spans S.content self.old.parts)) (λ pairs.
+        ensures answer { IfOk result (λ n. IfSome (content_of S.content self.old.parts) (λ pairs.
             n ≡ min cap (length (pairs_within pairs low.now high.now)))) }
         ensures few { IfOk result (λ n. n ≤ cap) }
-        ensures same { spans S.content self.new.parts ≡ spans S.content self.old.parts }
-        ensures cause { HasCause (faults_of S.faults self.old.parts) (faults_of S.faults self.new.parts) result }
-        ensures places { firsts self.new.parts ≡ firsts self.old.parts }
+        ensures asks { AsksNodes S.Store self.old.parts self.new.parts (length self.old.parts) result }
         ensures nodes { HasAsked self.old.tally self.new.tally
             (number_met low.now high.now (spans S.content self.old.parts)) cap (counted_entries result) result }
     {
@@ -237,9 +222,7 @@ impl<S: Store<N>, N: Ledger> PartStore<S, N> {
         requires { at < length self.old.parts }
         ensures number { IsCountAt (spans S.content self.old.parts) at low.now high.now cap self.old.tally
             self.new.tally result }
-        ensures same { spans S.content self.new.parts ≡ spans S.content self.old.parts }
-        ensures cause { HasCause (faults_of S.faults self.old.parts) (faults_of S.faults self.new.parts) result }
-        ensures places { firsts self.new.parts ≡ firsts self.old.parts }
+        ensures asks { AsksNodes S.Store self.old.parts self.new.parts 1 result }
     {
         match self.end_of(alloc, at) {
             Ok(until) => self.ask_count(alloc, at, low, high, &until, cap),
@@ -261,9 +244,7 @@ impl<S: Store<N>, N: Ledger> PartStore<S, N> {
         requires end { until.now ≡ first_from (drop (at + 1) self.old.parts) }
         ensures number { IsCountAt (spans S.content self.old.parts) at low.now high.now cap self.old.tally
             self.new.tally result }
-        ensures same { spans S.content self.new.parts ≡ spans S.content self.old.parts }
-        ensures cause { HasCause (faults_of S.faults self.old.parts) (faults_of S.faults self.new.parts) result }
-        ensures places { firsts self.new.parts ≡ firsts self.old.parts }
+        ensures asks { AsksNodes S.Store self.old.parts self.new.parts 1 result }
     {
         self.parts[at].count(alloc, low, high, until, cap, &mut self.tally)
     }
@@ -275,12 +256,9 @@ impl<S: Store<N>, N: Ledger> PartStore<S, N> {
         keys: &[Option<Bytes>],
     ) -> Result<List<Option<Bytes>>, StoreErr>
         requires { length keys.now < 2 ^ 32 }
-        ensures answer { IfOk result (AllZip (IsValueOf (joined_content (spans S.content self.old.parts))) keys.now) }
+        ensures answer { IfOk result (AllZip (IsValueOf (content_of S.content self.old.parts)) keys.now) }
         ensures answered { IfOk result (AllZip (IsValueAnswered (λ _ _. ⊤)) keys.now) }
-        ensures same { spans S.content self.new.parts ≡ spans S.content self.old.parts }
-        ensures cause { HasCause (faults_of S.faults self.old.parts) (faults_of S.faults self.new.parts) result }
-        ensures rounds { rounds_of S.rounds self.new.parts
-            ≤ rounds_of S.rounds self.old.parts + length self.old.parts }
+        ensures asks { AsksNodes S.Store self.old.parts self.new.parts (length self.old.parts) result }
     {
         let mut found = no_values(alloc, keys)?.into_vec();
         for at in 0..self.parts.len() {
@@ -302,10 +280,7 @@ impl<S: Store<N>, N: Ledger> PartStore<S, N> {
         requires long { length found.old.items ≡ length keys.now }
         ensures put { OnOk result (IsGetsAt (spans S.content self.old.parts) at keys.now found.old.items
             found.new.items) }
-        ensures same { spans S.content self.new.parts ≡ spans S.content self.old.parts }
-        ensures cause { HasCause (faults_of S.faults self.old.parts) (faults_of S.faults self.new.parts) result }
-        ensures places { firsts self.new.parts ≡ firsts self.old.parts }
-        ensures round { rounds_of S.rounds self.new.parts ≤ rounds_of S.rounds self.old.parts + 1 }
+        ensures asks { AsksNodes S.Store self.old.parts self.new.parts 1 result }
     {
         match self.end_of(alloc, at) {
             Ok(until) => self.ask_gets(alloc, at, keys, &until, found),
@@ -328,10 +303,7 @@ impl<S: Store<N>, N: Ledger> PartStore<S, N> {
         requires long { length found.old.items ≡ length keys.now }
         ensures put { OnOk result (IsGetsAt (spans S.content self.old.parts) at keys.now found.old.items
             found.new.items) }
-        ensures same { spans S.content self.new.parts ≡ spans S.content self.old.parts }
-        ensures cause { HasCause (faults_of S.faults self.old.parts) (faults_of S.faults self.new.parts) result }
-        ensures places { firsts self.new.parts ≡ firsts self.old.parts }
-        ensures round { rounds_of S.rounds self.new.parts ≤ rounds_of S.rounds self.old.parts + 1 }
+        ensures asks { AsksNodes S.Store self.old.parts self.new.parts 1 result }
     {
         self.parts[at].gets(alloc, keys, until, found, &mut self.tally)
     }
@@ -345,13 +317,10 @@ impl<S: Store<N>, N: Ledger> PartStore<S, N> {
     ) -> Result<List<List<Pair>>, StoreErr>
         requires limit { 1 ≤ limit }
         requires few { length asks.now * limit < 2 ^ 32 }
-        ensures answer { IfOk result (AllZip (ArePairsOf (joined_content (spans S.content self.old.parts)) limit)
-            asks.now) }
+        ensures answer { IfOk result (AllZip (ArePairsOf (content_of S.content self.old.parts) limit) asks.now) }
         ensures parts { IfOk result (AllZip (IsPartAsked limit) asks.now) }
-        ensures same { spans S.content self.new.parts ≡ spans S.content self.old.parts }
-        ensures cause { HasCause (faults_of S.faults self.old.parts) (faults_of S.faults self.new.parts) result }
-        ensures rounds { rounds_of S.rounds self.new.parts ≤ rounds_of S.rounds self.old.parts
-            + length self.old.parts + sum_by (spread_calls (spans S.content self.old.parts)) asks.now }
+        ensures asks { AsksNodes S.Store self.old.parts self.new.parts
+            (length self.old.parts + sum_by (spread_calls (spans S.content self.old.parts)) asks.now) result }
     {
         let spread = self.spread_parts(alloc, asks, limit)?;
         let mut found = spread.into_vec();
@@ -368,13 +337,10 @@ impl<S: Store<N>, N: Ledger> PartStore<S, N> {
         asks: &[Option<Ends>],
         limit: u32,
     ) -> Result<List<List<Pair>>, StoreErr>
-        ensures found { IfOk result (AllZip (AreFoundBut (joined_content (spans S.content self.old.parts))
+        ensures found { IfOk result (AllZip (AreFoundBut (content_of S.content self.old.parts)
             (spans S.content self.old.parts) limit) asks.now) }
-        ensures same { spans S.content self.new.parts ≡ spans S.content self.old.parts }
-        ensures places { firsts self.new.parts ≡ firsts self.old.parts }
-        ensures cause { HasCause (faults_of S.faults self.old.parts) (faults_of S.faults self.new.parts) result }
-        ensures rounds { rounds_of S.rounds self.new.parts ≤ rounds_of S.rounds self.old.parts
-            + sum_by (spread_calls (spans S.content self.old.parts)) asks.now }
+        ensures asks { AsksNodes S.Store self.old.parts self.new.parts
+            (sum_by (spread_calls (spans S.content self.old.parts)) asks.now) result }
     {
         let mut found = List::new(alloc);
         for asked in asks {
@@ -391,13 +357,10 @@ impl<S: Store<N>, N: Ledger> PartStore<S, N> {
         asked: &Option<Ends>,
         limit: u32,
     ) -> Result<List<Pair>, StoreErr>
-        ensures found { IfOk result (AreFoundBut (joined_content (spans S.content self.old.parts))
+        ensures found { IfOk result (AreFoundBut (content_of S.content self.old.parts)
             (spans S.content self.old.parts) limit asked.now) }
-        ensures same { spans S.content self.new.parts ≡ spans S.content self.old.parts }
-        ensures places { firsts self.new.parts ≡ firsts self.old.parts }
-        ensures cause { HasCause (faults_of S.faults self.old.parts) (faults_of S.faults self.new.parts) result }
-        ensures rounds { rounds_of S.rounds self.new.parts
-            ≤ rounds_of S.rounds self.old.parts + spread_calls (spans S.content self.old.parts) asked.now }
+        ensures asks { AsksNodes S.Store self.old.parts self.new.parts
+            (spread_calls (spans S.content self.old.parts) asked.now) result }
     {
         match asked {
             Some(ends) => self.spread_range(alloc, ends, limit),
@@ -413,12 +376,9 @@ impl<S: Store<N>, N: Ledger> PartStore<S, N> {
         limit: u32,
     ) -> Result<List<Pair>, StoreErr>
         ensures found { IfOk result (λ found. is_spread (spans S.content self.old.parts) ends.now ≡ true
-            → ArePairsTold (joined_content (spans S.content self.old.parts)) limit ends.now found) }
-        ensures same { spans S.content self.new.parts ≡ spans S.content self.old.parts }
-        ensures places { firsts self.new.parts ≡ firsts self.old.parts }
-        ensures cause { HasCause (faults_of S.faults self.old.parts) (faults_of S.faults self.new.parts) result }
-        ensures rounds { rounds_of S.rounds self.new.parts
-            ≤ rounds_of S.rounds self.old.parts + range_calls (spans S.content self.old.parts) ends.now }
+            → ArePairsTold (content_of S.content self.old.parts) limit ends.now found) }
+        ensures asks { AsksNodes S.Store self.old.parts self.new.parts
+            (range_calls (spans S.content self.old.parts) ends.now) result }
     {
         if self.lies_in_one(ends) {
             return Ok(List::new(alloc));
@@ -461,10 +421,7 @@ impl<S: Store<N>, N: Ledger> PartStore<S, N> {
         requires long { length found.old.items ≡ length asks.now }
         ensures put { OnOk result (IsRangesAt (spans S.content self.old.parts) at limit asks.now found.old.items
             found.new.items) }
-        ensures same { spans S.content self.new.parts ≡ spans S.content self.old.parts }
-        ensures cause { HasCause (faults_of S.faults self.old.parts) (faults_of S.faults self.new.parts) result }
-        ensures places { firsts self.new.parts ≡ firsts self.old.parts }
-        ensures round { rounds_of S.rounds self.new.parts ≤ rounds_of S.rounds self.old.parts + 1 }
+        ensures asks { AsksNodes S.Store self.old.parts self.new.parts 1 result }
     {
         match self.end_of(alloc, at) {
             Ok(until) => self.ask_ranges(alloc, at, asks, limit, &until, found),
@@ -490,10 +447,7 @@ impl<S: Store<N>, N: Ledger> PartStore<S, N> {
         requires long { length found.old.items ≡ length asks.now }
         ensures put { OnOk result (IsRangesAt (spans S.content self.old.parts) at limit asks.now found.old.items
             found.new.items) }
-        ensures same { spans S.content self.new.parts ≡ spans S.content self.old.parts }
-        ensures cause { HasCause (faults_of S.faults self.old.parts) (faults_of S.faults self.new.parts) result }
-        ensures places { firsts self.new.parts ≡ firsts self.old.parts }
-        ensures round { rounds_of S.rounds self.new.parts ≤ rounds_of S.rounds self.old.parts + 1 }
+        ensures asks { AsksNodes S.Store self.old.parts self.new.parts 1 result }
     {
         self.parts[at].put_pairs(alloc, asks, limit, until, found, &mut self.tally)
     }
@@ -521,9 +475,9 @@ fn no_values(alloc: Global, keys: &[Option<Bytes>]) -> Result<List<Option<Bytes>
 }
 
 impl<S: Store<N>, N: Ledger, L: Ledger> Store<L> for PartStore<S, N> {
-    ghost use Rattle.pq_parts.specs.Spans.{spans, joined_content, faults_of};
+    ghost use Rattle.pq_parts.specs.Spans.{content_of, faults_of};
 
-    ghost content = { λ s. joined_content (spans S.content s.parts) };
+    ghost content = { λ s. content_of S.content s.parts };
 
     ghost faults = { λ s. faults_of S.faults s.parts };
 
@@ -534,10 +488,9 @@ impl<S: Store<N>, N: Ledger, L: Ledger> Store<L> for PartStore<S, N> {
         key: &[u8],
         meter: &mut Meter<L>,
     ) -> Result<Option<Bytes>, StoreErr>
-        ensures answer { IfOk result (λ found. IfSome (joined_content (spans S.content self.old.parts))
+        ensures answer { IfOk result (λ found. IfSome (content_of S.content self.old.parts)
             (λ pairs. found ≡ value_at pairs key.now)) }
-        ensures same { joined_content (spans S.content self.new.parts)
-            ≡ joined_content (spans S.content self.old.parts) }
+        ensures same { content_of S.content self.new.parts ≡ content_of S.content self.old.parts }
         ensures cause { HasCause (faults_of S.faults self.old.parts) (faults_of S.faults self.new.parts) result }
         ensures meter { meter.new ≡ charged_counts meter.old (got_entries result) }
         ensures places { firsts self.new.parts ≡ firsts self.old.parts }
@@ -562,11 +515,10 @@ impl<S: Store<N>, N: Ledger, L: Ledger> Store<L> for PartStore<S, N> {
         meter: &mut Meter<L>,
     ) -> Result<List<Pair>, StoreErr>
         requires { 1 ≤ limit }
-        ensures answer { IfOk result (λ found. IfSome (joined_content (spans S.content self.old.parts)) (λ pairs.
+        ensures answer { IfOk result (λ found. IfSome (content_of S.content self.old.parts) (λ pairs.
             map entry found ≡ take limit (pairs_within pairs low.now high.now))) }
         ensures part { IfOk result (λ found. IsPartOf low.now high.now limit (map entry found)) }
-        ensures same { joined_content (spans S.content self.new.parts)
-            ≡ joined_content (spans S.content self.old.parts) }
+        ensures same { content_of S.content self.new.parts ≡ content_of S.content self.old.parts }
         ensures cause { HasCause (faults_of S.faults self.old.parts) (faults_of S.faults self.new.parts) result }
         ensures meter { meter.new ≡ charged_counts meter.old (ranged_entries result) }
         ensures places { firsts self.new.parts ≡ firsts self.old.parts }
@@ -594,11 +546,10 @@ impl<S: Store<N>, N: Ledger, L: Ledger> Store<L> for PartStore<S, N> {
         cap: u32,
         meter: &mut Meter<L>,
     ) -> Result<u32, StoreErr>
-        ensures answer { IfOk result (λ n. IfSome (joined_content (spans S.content self.old.parts)) (λ pairs.
+        ensures answer { IfOk result (λ n. IfSome (content_of S.content self.old.parts) (λ pairs.
             n ≡ min cap (length (pairs_within pairs low.now high.now)))) }
         ensures few { IfOk result (λ n. n ≤ cap) }
-        ensures same { joined_content (spans S.content self.new.parts)
-            ≡ joined_content (spans S.content self.old.parts) }
+        ensures same { content_of S.content self.new.parts ≡ content_of S.content self.old.parts }
         ensures cause { HasCause (faults_of S.faults self.old.parts) (faults_of S.faults self.new.parts) result }
         ensures meter { meter.new ≡ charged_counts meter.old (counted_entries result) }
         ensures places { firsts self.new.parts ≡ firsts self.old.parts }
@@ -626,18 +577,18 @@ impl<S: Store<N>, N: Ledger, L: Ledger> Store<L> for PartStore<S, N> {
         new: Option<&[u8]>,
         meter: &mut Meter<L>,
     ) -> Result<bool, StoreErr>
-        ensures answer { IfOk result (λ done. IfSome (joined_content (spans S.content self.old.parts)) (λ pairs.
+        ensures answer { IfOk result (λ done. IfSome (content_of S.content self.old.parts) (λ pairs.
             done ≡ admits guard.entry (value_at pairs key.now))) }
-        ensures content { OnOk result (joined_content (spans S.content self.new.parts)
+        ensures content { OnOk result (content_of S.content self.new.parts
             ≡ option_map (after_write guard.entry key.now (option_copied new.entry))
-            (joined_content (spans S.content self.old.parts))) }
+            (content_of S.content self.old.parts)) }
         ensures no_memory { IsErrOf result StoreErr.NoMem
-            → joined_content (spans S.content self.new.parts) ≡ joined_content (spans S.content self.old.parts) }
+            → content_of S.content self.new.parts ≡ content_of S.content self.old.parts }
         ensures failed { IsErrOf result StoreErr.Failed
-            → (joined_content (spans S.content self.new.parts) ≡ joined_content (spans S.content self.old.parts))
-            ⊎ (joined_content (spans S.content self.new.parts)
+            → (content_of S.content self.new.parts ≡ content_of S.content self.old.parts)
+            ⊎ (content_of S.content self.new.parts
             ≡ option_map (after_write guard.entry key.now (option_copied new.entry))
-            (joined_content (spans S.content self.old.parts))) }
+            (content_of S.content self.old.parts)) }
         ensures cause { HasCause (faults_of S.faults self.old.parts) (faults_of S.faults self.new.parts) result }
         ensures meter { meter.new ≡ charged_counts meter.old 0 }
         ensures places { firsts self.new.parts ≡ firsts self.old.parts }
@@ -660,10 +611,9 @@ impl<S: Store<N>, N: Ledger, L: Ledger> Store<L> for PartStore<S, N> {
         meter: &mut Meter<L>,
     ) -> Result<List<Option<Bytes>>, StoreErr>
         requires share { Affords allowance.old (length keys.now) (length keys.now) }
-        ensures answer { IfOk result (AllZip (IsValueOf (joined_content (spans S.content self.old.parts))) keys.now) }
+        ensures answer { IfOk result (AllZip (IsValueOf (content_of S.content self.old.parts)) keys.now) }
         ensures answered { IfOk result (AllZip (IsValueAnswered (λ _ _. ⊤)) keys.now) }
-        ensures same { joined_content (spans S.content self.new.parts)
-            ≡ joined_content (spans S.content self.old.parts) }
+        ensures same { content_of S.content self.new.parts ≡ content_of S.content self.old.parts }
         ensures cause { HasCause (faults_of S.faults self.old.parts) (faults_of S.faults self.new.parts) result }
         ensures paid { Pays allowance.old allowance.new meter.old meter.new (length keys.now) (length keys.now) }
         ensures counted { IfOk result (λ found. meter.new ≡ raised_counts meter.old (sum_by one_if_some keys.now)
@@ -701,12 +651,10 @@ impl<S: Store<N>, N: Ledger, L: Ledger> Store<L> for PartStore<S, N> {
         requires limit { 1 ≤ limit }
         requires share { Affords allowance.old (length asks.now) (length asks.now * limit) }
         ensures long { IfOk result (λ found. length found ≡ length asks.now) }
-        ensures answer { IfOk result (AllZip (ArePairsOf (joined_content (spans S.content self.old.parts)) limit)
-            asks.now) }
+        ensures answer { IfOk result (AllZip (ArePairsOf (content_of S.content self.old.parts) limit) asks.now) }
         ensures parts { IfOk result (AllZip (IsPartAsked limit) asks.now) }
         ensures answered { IfOk result (AllByRecursion (AreAnswers (λ _ _. ⊤))) }
-        ensures same { joined_content (spans S.content self.new.parts)
-            ≡ joined_content (spans S.content self.old.parts) }
+        ensures same { content_of S.content self.new.parts ≡ content_of S.content self.old.parts }
         ensures cause { HasCause (faults_of S.faults self.old.parts) (faults_of S.faults self.new.parts) result }
         ensures paid { Pays allowance.old allowance.new meter.old meter.new (length asks.now)
             (length asks.now * limit) }

@@ -1,9 +1,8 @@
 //! Tests in a row that one part answers alone: its node is asked for all of them at once.
 ghost use Rattle.std.specs.Prelude.{◌≡◌, ◌≤◌, ◌<◌, ◌+◌, ◌^◌, IfOk, IfSome, true, length, position, sum_by, take};
-ghost use Rattle.pq_store.specs.Content.{HasCause};
 ghost use Rattle.pq_store.specs.Rounds.{Affords, Pays, AreTestsCounted, is_held, test_entries};
-ghost use Rattle.pq_parts.specs.Asking.{AreAnswered, answers_test, rounds_of};
-ghost use Rattle.pq_parts.specs.Spans.{firsts, spans, joined_content, faults_of};
+ghost use Rattle.pq_parts.specs.Asking.{AreAnswered, answers_test, AsksNodes};
+ghost use Rattle.pq_parts.specs.Spans.{content_of};
 
 use crate::part_store::PartStore;
 use crate::payment::{pay_used, share_of};
@@ -85,16 +84,13 @@ impl<S: Store<N>, N: Ledger> PartStore<S, N> {
         requires ops { allowance.old.left.ops < 2 ^ 32 }
         requires entries { allowance.old.left.entries < 2 ^ 32 }
         requires share { Affords allowance.old (length tests.now) (sum_by test_entries tests.now) }
-        ensures answer { IfOk result (λ held. IfSome (joined_content (spans S.content self.old.parts))
+        ensures answer { IfOk result (λ held. IfSome (content_of S.content self.old.parts)
             (λ pairs. held ≡ position (is_held pairs) tests.now)) }
         ensures within { IfOk result (λ held. IfSome held (λ i. i < length tests.now)) }
-        ensures same { spans S.content self.new.parts ≡ spans S.content self.old.parts }
-        ensures cause { HasCause (faults_of S.faults self.old.parts) (faults_of S.faults self.new.parts) result }
-        ensures places { firsts self.new.parts ≡ firsts self.old.parts }
-        ensures round { rounds_of S.rounds self.new.parts ≤ rounds_of S.rounds self.old.parts + 1 }
+        ensures asks { AsksNodes S.Store self.old.parts self.new.parts 1 result }
         ensures paid { Pays allowance.old allowance.new meter.old meter.new (length tests.now)
             (sum_by test_entries tests.now) }
-        ensures counted { IfOk result (AreTestsCounted (joined_content (spans S.content self.old.parts)) meter.old
+        ensures counted { IfOk result (AreTestsCounted (content_of S.content self.old.parts) meter.old
             meter.new tests.now) }
     {
         let mut share = share_of(allowance);

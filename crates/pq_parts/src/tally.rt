@@ -7,6 +7,7 @@ ghost use Rattle.pq_store.specs.Content.{entry, pairs_within, after_write, admit
 ghost use Rattle.pq_store.specs.Counts.{used_of};
 ghost use Rattle.pq_store.specs.Rounds.{Affords, Pays, IsValueOf, ArePairsOf, IsPartAsked, AreTestsCounted, is_held, one_if_some, test_entries};
 ghost use Rattle.pq_parts.specs.Tally.{raised_number, counted_call};
+ghost use Rattle.pq_parts.specs.Asking.{AsksOnce};
 
 use pq_base::{Bound, Bytes, List};
 use pq_store::{Allowance, Ends, Guard, Meter, Pair, Store, StoreErr, Test};
@@ -82,8 +83,7 @@ impl<N: Ledger> Tally<N> {
         key: &[u8],
     ) -> Result<Option<Bytes>, StoreErr>
         ensures answer { IfOk result (λ found. IfSome (S.content node.old) (λ pairs. found ≡ value_at pairs key.now)) }
-        ensures same { S.content node.new ≡ S.content node.old }
-        ensures cause { HasCause (S.faults node.old) (S.faults node.new) result }
+        ensures asks { AsksOnce S.Store node.old node.new result }
         ensures counts { self.new ≡ counted_call self.old 1 (got_entries result) }
     {
         let found = node.get(alloc, key, &mut self.meter);
@@ -107,9 +107,7 @@ impl<N: Ledger> Tally<N> {
         ensures answer { IfOk result (λ found. IfSome (S.content node.old) (λ pairs.
             map entry found ≡ take limit (pairs_within pairs low.now high.now))) }
         ensures part { IfOk result (λ found. IsPartOf low.now high.now limit (map entry found)) }
-        ensures same { S.content node.new ≡ S.content node.old }
-        ensures cause { HasCause (S.faults node.old) (S.faults node.new) result }
-        ensures round { S.rounds node.new ≤ S.rounds node.old + 1 }
+        ensures asks { AsksOnce S.Store node.old node.new result }
         ensures counts { self.new ≡ counted_call self.old 1 (ranged_entries result) }
     {
         let found = node.range(alloc, low, high, limit, &mut self.meter);
@@ -132,8 +130,7 @@ impl<N: Ledger> Tally<N> {
         ensures answer { IfOk result (λ n. IfSome (S.content node.old) (λ pairs.
             n ≡ min cap (length (pairs_within pairs low.now high.now)))) }
         ensures few { IfOk result (λ n. n ≤ cap) }
-        ensures same { S.content node.new ≡ S.content node.old }
-        ensures cause { HasCause (S.faults node.old) (S.faults node.new) result }
+        ensures asks { AsksOnce S.Store node.old node.new result }
         ensures counts { self.new ≡ counted_call self.old 1 (counted_entries result) }
     {
         let found = node.count(alloc, low, high, cap, &mut self.meter);
@@ -190,9 +187,7 @@ impl<N: Ledger> Tally<N> {
         requires { length keys.now < 2 ^ 32 }
         ensures long { IfOk result (λ found. length found ≡ length keys.now) }
         ensures answer { IfOk result (AllZip (IsValueOf (S.content node.old)) keys.now) }
-        ensures same { S.content node.new ≡ S.content node.old }
-        ensures cause { HasCause (S.faults node.old) (S.faults node.new) result }
-        ensures round { S.rounds node.new ≤ S.rounds node.old + 1 }
+        ensures asks { AsksOnce S.Store node.old node.new result }
         ensures counts { IfOk result (λ found. self.new
             ≡ counted_call self.old (sum_by one_if_some keys.now) (sum_by one_if_some found)) }
     {
@@ -219,9 +214,7 @@ impl<N: Ledger> Tally<N> {
         ensures long { IfOk result (λ found. length found ≡ length asks.now) }
         ensures answer { IfOk result (AllZip (ArePairsOf (S.content node.old) limit) asks.now) }
         ensures parts { IfOk result (AllZip (IsPartAsked limit) asks.now) }
-        ensures same { S.content node.new ≡ S.content node.old }
-        ensures cause { HasCause (S.faults node.old) (S.faults node.new) result }
-        ensures round { S.rounds node.new ≤ S.rounds node.old + 1 }
+        ensures asks { AsksOnce S.Store node.old node.new result }
         ensures counts { IfOk result (λ found. self.new
             ≡ counted_call self.old (sum_by one_if_some asks.now) (sum_by length found)) }
     {
@@ -256,9 +249,7 @@ impl<N: Ledger> Tally<N> {
         requires share { Affords share.old (length tests.now) (sum_by test_entries tests.now) }
         ensures answer { IfOk result (λ at. IfSome (S.content node.old) (λ pairs. at ≡ position (is_held pairs) tests.now)) }
         ensures within { IfOk result (λ at. IfSome at (λ i. i < length tests.now)) }
-        ensures same { S.content node.new ≡ S.content node.old }
-        ensures cause { HasCause (S.faults node.old) (S.faults node.new) result }
-        ensures round { S.rounds node.new ≤ S.rounds node.old + 1 }
+        ensures asks { AsksOnce S.Store node.old node.new result }
         ensures paid { Pays share.old share.new self.old.nodes self.new.nodes (length tests.now)
             (sum_by test_entries tests.now) }
         ensures counted { IfOk result (AreTestsCounted (S.content node.old) self.old.nodes self.new.nodes tests.now) }

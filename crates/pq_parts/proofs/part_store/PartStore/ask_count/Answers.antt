@@ -1,23 +1,15 @@
-use Rattle.pq_parts.proofs.Nodes.{placed_moved, firsts_moved, same_moved, cause_moved}
+use Rattle.pq_parts.proofs.Nodes.{placed_moved, asks_moved}
 use Rattle.pq_parts.proofs.Gather.{count_here}
 use Rattle.pq_parts.proofs.part_store.PartStore.ask_count.Goals as goal
 
 pub invariant_of-self : goal.invariant_of-self
-invariant_of-self g c = placed_moved c.index_mut.result.now c.count.new.self c.count.ensures.from c.self.inside.parts.items c.args.at c.index_mut.ensures.value c.self.invariant
+invariant_of-self g c = placed_moved c.index_mut.result.now c.count.new.self c.count.ensures.asks.from c.self.inside.parts.items c.args.at c.index_mut.ensures.value c.self.invariant
 
 pub returns-clause-number : goal.returns-clause-number
 returns-clause-number g c =
     rw (← c.self.view_is) (count_here g.S.Store.content c.self.inside.parts.items c.self.invariant c.args.at (rw (← c.self.view_is) at c.requires.within) c.index_mut.result.now c.index_mut.ensures.value
     c.args.until.now (rw (← c.self.view_is) at c.requires.end) c.args.low.now c.args.high.now c.args.cap _ _ c.count.result c.count.ensures.tally c.count.ensures.few c.count.ensures.answer)
 
-pub returns-clause-same : goal.returns-clause-same
-returns-clause-same g c =
-    rw (← c.self.view_is) (same_moved c.index_mut.result.now c.count.new.self c.count.ensures.from c.self.inside.parts.items c.args.at c.index_mut.ensures.value g.S.Store.content c.count.ensures.same)
-
-pub returns-clause-cause : goal.returns-clause-cause
-returns-clause-cause g c =
-    rw (← c.self.view_is) (cause_moved c.index_mut.result.now c.count.new.self c.count.ensures.from c.self.inside.parts.items c.args.at c.index_mut.ensures.value g.S.Store.faults (rw (← c.self.view_is) at c.requires.within) c.count.result c.count.ensures.cause)
-
-pub returns-clause-places : goal.returns-clause-places
-returns-clause-places g c =
-    rw (← c.self.view_is) (firsts_moved c.index_mut.result.now c.count.new.self c.count.ensures.from c.self.inside.parts.items c.args.at c.index_mut.ensures.value)
+pub returns-clause-asks : goal.returns-clause-asks
+returns-clause-asks g c =
+    rw (← c.self.view_is) (asks_moved g.S.Store c.index_mut.result.now c.count.new.self c.self.inside.parts.items c.args.at c.index_mut.ensures.value (rw (← c.self.view_is) at c.requires.within) c.count.result c.count.ensures.asks)

@@ -1,4 +1,4 @@
-use Rattle.pq_parts.proofs.Nodes.{placed_set, firsts_set, same_set}
+use Rattle.pq_parts.proofs.Nodes.{placed_set, asks_set}
 use Rattle.pq_parts.proofs.InRow.{row_answer, row_counted}
 use Rattle.pq_parts.proofs.part_store.PartStore.row_held.Goals as goal
 
@@ -10,13 +10,10 @@ returns-clause-answer g c =
     rw (← c.self.view_is) (row_answer g.S.Store.content c.self.inside.parts.items c.self.invariant c.args.at (rw (← c.self.view_is) at c.requires.place) c.index_mut.result.now c.index_mut.ensures.value
     c.args.tests.now (rw (← c.self.view_is) at c.requires.alone) c.first_held-held.result c.first_held-held.ensures.answer)
 
-pub returns-clause-same : goal.returns-clause-same
-returns-clause-same g c =
-    rw (← c.self.view_is) (same_set c.index_mut.result.now c.first_held-held.new.node g.S.Store.content c.self.inside.parts.items c.args.at c.index_mut.ensures.value c.first_held-held.ensures.same)
-
-pub returns-clause-places : goal.returns-clause-places
-returns-clause-places g c =
-    rw (← c.self.view_is) (firsts_set c.index_mut.result.now c.first_held-held.new.node c.self.inside.parts.items c.args.at c.index_mut.ensures.value)
+pub returns-clause-asks : goal.returns-clause-asks
+returns-clause-asks g c =
+    rw (← c.self.view_is) (asks_set g.S.Store c.index_mut.result.now c.first_held-held.new.node c.self.inside.parts.items c.args.at c.index_mut.ensures.value (rw (← c.self.view_is) at c.requires.place)
+    c.first_held-held.result c.first_held-held.ensures.asks)
 
 pub returns-clause-counted : goal.returns-clause-counted
 returns-clause-counted g c =

@@ -18,15 +18,15 @@ loop-asked-preserved g c =
     let list = spans content c.args.self.now.parts in
     let pairs = c.in_ok-pairs.pairs in
     let before = inv.faults in
-    let later = one.cause.later in
+    let later = one.asks.cause.later in
     let asked = inv.rounds in
-    let once = subst (λ (l : List Span). rounds_of g.S.Store.rounds c.spread_pairs.new.self.parts ≤ rounds_of g.S.Store.rounds c.loop-asked.self.parts + spread_calls l c.asked-item.result) inv.same one.rounds in
+    let once = subst (λ (l : List Span). rounds_of g.S.Store.rounds c.spread_pairs.new.self.parts ≤ rounds_of g.S.Store.rounds c.loop-asked.self.parts + spread_calls l c.asked-item.result) inv.same one.asks.few in
     let calls = calls_more (spread_calls list) asks i c.asked-item.result c.loop-asked-test.true c.asked-item.is in
     let here : AreFoundBut (joined_content list) list limit c.asked-item.result pairs =
     subst (λ (l : List Span). AreFoundBut (joined_content l) l limit c.asked-item.result pairs) inv.same one.found in
     record {
-      same = one.same ∙ inv.same;
-      places = one.places ∙ inv.places;
+      same = one.asks.same ∙ inv.same;
+      places = one.asks.places ∙ inv.places;
       faults = omega (arith, before, later);
       rounds = omega (arith, asked, once, calls);
       found = subst (λ (l : List (List Pair)). AllZip (AreFoundBut (joined_content list) list limit) (take (i + 1) asks) l) (sym c.in_ok-push.ensures.ok)

@@ -15,10 +15,10 @@ returns-clause-found g c =
     let list = spans g.S.Store.content c.args.self.now.parts in
     spread_result (joined_content list) list c.args.limit c.args.ends.now _ _ c.collect.result c.items.ensures c.items-2.ensures c.collect.ensures.answer c.collect.ensures.part
 
-pub returns-clause-rounds : goal.returns-clause-rounds
-returns-clause-rounds g c =
+pub returns-clause-asks : goal.returns-clause-asks
+returns-clause-asks g c =
     let list = spans g.S.Store.content c.args.self.now.parts in
     let calls : range_calls list c.args.ends.now ≡ length list = ap (λ b. cond b (length list) 0) (c.lies_in_one.ensures.spread g.S.Store.content c.if-lies_in_one.false) in
     let long = length-spans g.S.Store.content c.args.self.now.parts in
-    let most = c.collect.ensures.rounds in
-    omega (arith, calls, long, most)
+    let most = c.collect.ensures.asks.few in
+    record { same = c.collect.ensures.asks.same; places = c.collect.ensures.asks.places; cause = c.collect.ensures.asks.cause; few = omega (arith, calls, long, most) }

@@ -10,12 +10,15 @@ loop-at-preserved g c =
     let inv = c.loop-at.invariant in
     let done = c.in_ok-n.ensures in
     let before = inv.faults in
-    let later = done.cause.later in
+    let later = done.asks.cause.later in
+    let asked = inv.rounds in
+    let once = done.asks.few in
     record {
-      long = sym (length-spans g.S.Store.content c.count_at.new.self.parts) ∙ ap length done.same ∙ length-spans g.S.Store.content c.loop-at.self.parts ∙ inv.long;
-      same = done.same ∙ inv.same;
-      places = done.places ∙ inv.places;
+      long = sym (length-spans g.S.Store.content c.count_at.new.self.parts) ∙ ap length done.asks.same ∙ length-spans g.S.Store.content c.loop-at.self.parts ∙ inv.long;
+      same = done.asks.same ∙ inv.same;
+      places = done.asks.places ∙ inv.places;
       faults = omega (arith, before, later);
+      rounds = omega (arith, asked, once);
       counted = counts _ _ _ _ c.loop-at.at c.args.low.now c.args.high.now c.args.cap c.loop-at.n c.in_ok-n.field-0 (rw inv.same at done.number) inv.counted;
     }
 

@@ -80,8 +80,8 @@ loop-made-preserved g c =
     record {
       few = high;
       none = none_on told tests made end low high h.none c.in_ok-held.held c.in_default-held.is (rw h.same at one.answer);
-      same = ap joined_content one.same ∙ h.same;
-      later = omega (arith, h.later, one.cause.later);
+      same = ap joined_content one.asks.same ∙ h.same;
+      later = omega (arith, h.later, one.asks.cause.later);
       paid = pays_then _ _ _ _ _ _ made (sum_by test_entries (take made tests)) _ _ _ _ h.paid one.paid (omega (arith, long, low)) (omega (arith, sums));
       counted = none_behind told c.args.meter.now c.loop-made.meter c.row_held.new.meter tests made end low high h.counted c.in_ok-held.held c.in_default-held.is (rw h.same at one.counted);
     }

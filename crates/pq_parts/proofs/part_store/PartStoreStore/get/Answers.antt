@@ -13,11 +13,11 @@ returns-clause-answer g c =
 
 pub returns-clause-same : goal.returns-clause-same
 returns-clause-same g c =
-    rw (← c.self.view_is) (ap joined_content (same_set c.index_mut.result.now c.get-found.new.node g.S.Store.content c.self.inside.parts.items c.place-at.result c.index_mut.ensures.value c.get-found.ensures.same))
+    rw (← c.self.view_is) (ap joined_content (same_set c.index_mut.result.now c.get-found.new.node g.S.Store.content c.self.inside.parts.items c.place-at.result c.index_mut.ensures.value c.get-found.ensures.asks.same))
 
 pub returns-clause-cause : goal.returns-clause-cause
 returns-clause-cause g c =
-    rw (← c.self.view_is) (cause_set c.index_mut.result.now c.get-found.new.node g.S.Store.faults c.self.inside.parts.items c.place-at.result (rw (← c.self.view_is) at c.place-at.ensures.within) c.index_mut.ensures.value c.get-found.result c.get-found.ensures.cause)
+    rw (← c.self.view_is) (cause_set c.index_mut.result.now c.get-found.new.node g.S.Store.faults c.self.inside.parts.items c.place-at.result (rw (← c.self.view_is) at c.place-at.ensures.within) c.index_mut.ensures.value c.get-found.result c.get-found.ensures.asks.cause)
 
 pub returns-clause-places : goal.returns-clause-places
 returns-clause-places g c =
