@@ -1,5 +1,5 @@
 -- The ends of a link, and what one exchange does to them.
-use Rattle.std.specs.Prelude.{◌≡◌, ℕ, ◌≤◌, ◌+◌, ◌/◌, min, max, Bool, true, false, List, [], ◌++◌, length, Option, Some, None, Result, IsOk, sum_by, flat_map, ⊤}
+use Rattle.std.specs.Prelude.{◌≡◌, ℕ, ◌≤◌, ◌+◌, ◌/◌, min, max, Bool, true, false, List, [], ◌++◌, length, Option, Some, None, Result, IsOk, IfOk, OnErr, sum_by, flat_map, ⊤}
 use Rattle.std.specs.Io.KnownBytes.{Appends, Consumes}
 use Rattle.pq_store.specs.declared.store.Ends.{Ends}
 use Rattle.pq_store.specs.declared.store.Pair.{Pair}
@@ -47,6 +47,26 @@ pub data HasFailed (before now : LinkEnds) (request : List ℕ) : Type 0 where
 -- over a link that is broken nothing is sent or read, and the call fails
 abbrev pub StaysBroken : {A E : Type 0} → LinkEnds → LinkEnds → Result A E → Type 0
 StaysBroken before now result = before.unanswered ≡ true → (now ≡ before) × ¬ IsOk result
+
+-- how a call fails that asks just this
+pub record Fails {A E : Type 0} (before now : LinkEnds) (request : List ℕ) (result : Result A E) : Type 0 where
+  pub failed : OnErr result (HasFailed before now request)
+  pub broken : StaysBroken before now result
+
+-- a call asks just this, and what it gives is what the body of the answer says
+pub record Exchanges {A E : Type 0} (before now : LinkEnds) (request : List ℕ) (body : A → List ℕ) (result : Result A E) : Type 0 where
+  pub exchanged : IfOk result (λ x. HasExchanged before now request (answer (body x)))
+  pub fails : Fails before now request result
+
+-- the store is that of the same node
+pub record IsSameNode (before now : HostedNode) : Type 0 where
+  pub node : now.node ≡ before.node
+  pub rounds : now.rounds ≡ before.rounds
+
+-- and no failure was counted
+pub record IsStill (before now : HostedNode) : Type 0 where
+  pub same : IsSameNode before now
+  pub faults : now.faults ≡ before.faults
 
 -- ---- several questions
 

@@ -3,7 +3,7 @@ ghost use Rattle.std.specs.Prelude.{◌≡◌, ◌≤◌, IfOk, OnErr, IsErrOf, 
 ghost use Rattle.std.specs.Option.{option_copied};
 ghost use Rattle.std.specs.Int.{w32, to_be_bytes};
 ghost use Rattle.pq_store.specs.Content.{HasRisen, IsPartOf, entry};
-ghost use Rattle.pq_host.specs.Ends.{HasExchanged, HasFailed, StaysBroken};
+ghost use Rattle.pq_host.specs.Ends.{Exchanges, IsSameNode, IsStill};
 ghost use Rattle.pq_host.specs.Frames.{number, answer, get_request, range_request, count_request, write_request, value_body, pairs_body, done_body};
 
 use crate::answer::{read_done, read_pairs, read_value};
@@ -57,8 +57,7 @@ impl<'a, R: Read, W: Write> HostStore<'a, R, W> {
         ensures later { self.old.faults ≤ self.new.faults }
         ensures risen { error ≡ StoreErr.Failed → HasRisen self.old.faults self.new.faults }
         ensures link { self.new.link ≡ self.old.link }
-        ensures node { self.new.node ≡ self.old.node }
-        ensures rounds { self.new.rounds ≡ self.old.rounds }
+        ensures same { IsSameNode self.old self.new }
     {
         if matches!(error, StoreErr::Failed) {
             self.faults = self.faults.saturating_add(1);
@@ -67,14 +66,8 @@ impl<'a, R: Read, W: Write> HostStore<'a, R, W> {
     }
 
     pub(crate) fn value_at(&mut self, alloc: Global, key: &[u8]) -> Result<Option<Bytes>, StoreErr>
-        ensures exchanged { IfOk result (λ found. HasExchanged self.old.link self.new.link
-            (get_request self.old.node key.now) (answer (value_body found))) }
-        ensures failed { OnErr result (HasFailed self.old.link self.new.link
-            (get_request self.old.node key.now)) }
-        ensures broken { StaysBroken self.old.link self.new.link result }
-        ensures faults { self.new.faults ≡ self.old.faults }
-        ensures node { self.new.node ≡ self.old.node }
-        ensures rounds { self.new.rounds ≡ self.old.rounds }
+        ensures asks { Exchanges self.old.link self.new.link (get_request self.old.node key.now) value_body result }
+        ensures same { IsStill self.old self.new }
     {
         let body = self.link.ask_body(alloc, Op::Get, self.node, key)?;
         let found = read_value(alloc, body.items())?;
@@ -90,14 +83,9 @@ impl<'a, R: Read, W: Write> HostStore<'a, R, W> {
         limit: u32,
     ) -> Result<List<Pair>, StoreErr>
         ensures part { IfOk result (λ found. IsPartOf low.now high.now limit (map entry found)) }
-        ensures exchanged { IfOk result (λ found. HasExchanged self.old.link self.new.link
-            (range_request self.old.node low.now high.now limit) (answer (pairs_body (map entry found)))) }
-        ensures failed { OnErr result (HasFailed self.old.link self.new.link
-            (range_request self.old.node low.now high.now limit)) }
-        ensures broken { StaysBroken self.old.link self.new.link result }
-        ensures faults { self.new.faults ≡ self.old.faults }
-        ensures node { self.new.node ≡ self.old.node }
-        ensures rounds { self.new.rounds ≡ self.old.rounds }
+        ensures asks { Exchanges self.old.link self.new.link (range_request self.old.node low.now high.now limit)
+            (λ found. pairs_body (map entry found)) result }
+        ensures same { IsStill self.old self.new }
     {
         let body = range_body(alloc, low, high, limit)?;
         let body = self
@@ -119,14 +107,9 @@ impl<'a, R: Read, W: Write> HostStore<'a, R, W> {
         cap: u32,
     ) -> Result<u32, StoreErr>
         ensures few { IfOk result (λ n. n ≤ cap) }
-        ensures exchanged { IfOk result (λ n. HasExchanged self.old.link self.new.link
-            (count_request self.old.node low.now high.now cap) (answer (number n))) }
-        ensures failed { OnErr result (HasFailed self.old.link self.new.link
-            (count_request self.old.node low.now high.now cap)) }
-        ensures broken { StaysBroken self.old.link self.new.link result }
-        ensures faults { self.new.faults ≡ self.old.faults }
-        ensures node { self.new.node ≡ self.old.node }
-        ensures rounds { self.new.rounds ≡ self.old.rounds }
+        ensures asks { Exchanges self.old.link self.new.link (count_request self.old.node low.now high.now cap)
+            number result }
+        ensures same { IsStill self.old self.new }
     {
         let body = range_body(alloc, low, high, cap)?;
         let number = self
@@ -148,16 +131,10 @@ impl<'a, R: Read, W: Write> HostStore<'a, R, W> {
         guard: Guard,
         new: Option<&[u8]>,
     ) -> Result<bool, StoreErr>
-        ensures exchanged { IfOk result (λ done. HasExchanged self.old.link self.new.link
-            (write_request self.old.node key.now guard.entry (option_copied new.entry))
-            (answer (done_body done))) }
-        ensures failed { OnErr result (HasFailed self.old.link self.new.link
-            (write_request self.old.node key.now guard.entry (option_copied new.entry))) }
-        ensures broken { StaysBroken self.old.link self.new.link result }
+        ensures asks { Exchanges self.old.link self.new.link
+            (write_request self.old.node key.now guard.entry (option_copied new.entry)) done_body result }
         ensures unsent { IsErrOf result StoreErr.NoMem → self.new.link ≡ self.old.link }
-        ensures faults { self.new.faults ≡ self.old.faults }
-        ensures node { self.new.node ≡ self.old.node }
-        ensures rounds { self.new.rounds ≡ self.old.rounds }
+        ensures same { IsStill self.old self.new }
     {
         let body = write_body(alloc, key, guard, new)?;
         let answer = self
@@ -181,7 +158,7 @@ impl<'a, L: Ledger, R: Read, W: Write> Store<L> for HostStore<'a, R, W> {
     ghost use Rattle.pq_store.specs.Counts.{charged_counts, raised_counts};
     ghost use Rattle.pq_store.specs.Content.{Content, entry, pairs_within, after_write, admits, got_entries, ranged_entries, counted_entries, IsPartOf, HasCause};
     ghost use Rattle.pq_store.specs.Rounds.{Affords, Pays, IsValueAnswered, IsPartAsked, one_if_some, test_entries, AreTestsCounted};
-    ghost use Rattle.pq_host.specs.Ends.{HasExchanged, HasFailed, StaysBroken, HasAskedAll, HasFailedAmong, HasAskedValues, HasAskedParts, HasAskedUnheld, HasFoundHeld, any_answer, most_asked, most_ranges};
+    ghost use Rattle.pq_host.specs.Ends.{StaysBroken, Exchanges, IsSameNode, HasAskedAll, HasFailedAmong, HasAskedValues, HasAskedParts, HasAskedUnheld, HasFoundHeld, any_answer, most_asked, most_ranges};
     ghost use Rattle.pq_host.specs.Frames.{values_request, parts_request, tests_request, number, answer, get_request, range_request, count_request, write_request, value_body, pairs_body, done_body};
 
     ghost content = { λ _. None };
@@ -197,13 +174,8 @@ impl<'a, L: Ledger, R: Read, W: Write> Store<L> for HostStore<'a, R, W> {
     ) -> Result<Option<Bytes>, StoreErr>
         ensures cause { HasCause self.old.faults self.new.faults result }
         ensures meter { meter.new ≡ charged_counts meter.old (got_entries result) }
-        ensures exchanged { IfOk result (λ found. HasExchanged self.old.link self.new.link
-            (get_request self.old.node key.now) (answer (value_body found))) }
-        ensures failed { OnErr result (HasFailed self.old.link self.new.link
-            (get_request self.old.node key.now)) }
-        ensures broken { StaysBroken self.old.link self.new.link result }
-        ensures node { self.new.node ≡ self.old.node }
-        ensures rounds { self.new.rounds ≡ self.old.rounds }
+        ensures asks { Exchanges self.old.link self.new.link (get_request self.old.node key.now) value_body result }
+        ensures same { IsSameNode self.old self.new }
     {
         match self.value_at(alloc, key) {
             Ok(Some(value)) => {
@@ -234,13 +206,9 @@ impl<'a, L: Ledger, R: Read, W: Write> Store<L> for HostStore<'a, R, W> {
         ensures part { IfOk result (λ found. IsPartOf low.now high.now limit (map entry found)) }
         ensures cause { HasCause self.old.faults self.new.faults result }
         ensures meter { meter.new ≡ charged_counts meter.old (ranged_entries result) }
-        ensures exchanged { IfOk result (λ found. HasExchanged self.old.link self.new.link
-            (range_request self.old.node low.now high.now limit) (answer (pairs_body (map entry found)))) }
-        ensures failed { OnErr result (HasFailed self.old.link self.new.link
-            (range_request self.old.node low.now high.now limit)) }
-        ensures broken { StaysBroken self.old.link self.new.link result }
-        ensures node { self.new.node ≡ self.old.node }
-        ensures rounds { self.new.rounds ≡ self.old.rounds }
+        ensures asks { Exchanges self.old.link self.new.link (range_request self.old.node low.now high.now limit)
+            (λ found. pairs_body (map entry found)) result }
+        ensures same { IsSameNode self.old self.new }
     {
         match self.pairs_within(alloc, low, high, limit) {
             Ok(pairs) => {
@@ -266,13 +234,9 @@ impl<'a, L: Ledger, R: Read, W: Write> Store<L> for HostStore<'a, R, W> {
         ensures few { IfOk result (λ n. n ≤ cap) }
         ensures cause { HasCause self.old.faults self.new.faults result }
         ensures meter { meter.new ≡ charged_counts meter.old (counted_entries result) }
-        ensures exchanged { IfOk result (λ n. HasExchanged self.old.link self.new.link
-            (count_request self.old.node low.now high.now cap) (answer (number n))) }
-        ensures failed { OnErr result (HasFailed self.old.link self.new.link
-            (count_request self.old.node low.now high.now cap)) }
-        ensures broken { StaysBroken self.old.link self.new.link result }
-        ensures node { self.new.node ≡ self.old.node }
-        ensures rounds { self.new.rounds ≡ self.old.rounds }
+        ensures asks { Exchanges self.old.link self.new.link (count_request self.old.node low.now high.now cap)
+            number result }
+        ensures same { IsSameNode self.old self.new }
     {
         match self.number_within(alloc, low, high, cap) {
             Ok(n) => {
@@ -297,15 +261,10 @@ impl<'a, L: Ledger, R: Read, W: Write> Store<L> for HostStore<'a, R, W> {
     ) -> Result<bool, StoreErr>
         ensures cause { HasCause self.old.faults self.new.faults result }
         ensures meter { meter.new ≡ charged_counts meter.old 0 }
-        ensures exchanged { IfOk result (λ done. HasExchanged self.old.link self.new.link
-            (write_request self.old.node key.now guard.entry (option_copied new.entry))
-            (answer (done_body done))) }
-        ensures failed { OnErr result (HasFailed self.old.link self.new.link
-            (write_request self.old.node key.now guard.entry (option_copied new.entry))) }
-        ensures broken { StaysBroken self.old.link self.new.link result }
+        ensures asks { Exchanges self.old.link self.new.link
+            (write_request self.old.node key.now guard.entry (option_copied new.entry)) done_body result }
         ensures unsent { IsErrOf result StoreErr.NoMem → self.new.link ≡ self.old.link }
-        ensures node { self.new.node ≡ self.old.node }
-        ensures rounds { self.new.rounds ≡ self.old.rounds }
+        ensures same { IsSameNode self.old self.new }
     {
         meter.charge(0);
         match self.change(alloc, key, guard, new) {
@@ -333,8 +292,7 @@ impl<'a, L: Ledger, R: Read, W: Write> Store<L> for HostStore<'a, R, W> {
         ensures failed { OnErr result (HasFailedAmong (most_asked self.old.rounds) (HasAskedValues self.old.node)
             (values_request self.old.node) self.old.link self.new.link keys.now) }
         ensures broken { 1 ≤ sum_by one_if_some keys.now → StaysBroken self.old.link self.new.link result }
-        ensures node { self.new.node ≡ self.old.node }
-        ensures rounds { self.new.rounds ≡ self.old.rounds }
+        ensures same { IsSameNode self.old self.new }
     {
         let most = self.at_once();
         let mut found = List::new(alloc);
@@ -371,8 +329,7 @@ impl<'a, L: Ledger, R: Read, W: Write> Store<L> for HostStore<'a, R, W> {
             (HasAskedParts self.old.node limit) (λ part. parts_request self.old.node part limit)
             self.old.link self.new.link asks.now) }
         ensures broken { 1 ≤ sum_by one_if_some asks.now → StaysBroken self.old.link self.new.link result }
-        ensures node { self.new.node ≡ self.old.node }
-        ensures rounds { self.new.rounds ≡ self.old.rounds }
+        ensures same { IsSameNode self.old self.new }
     {
         let most = self.ranges_at_once(limit);
         let mut found = List::new(alloc);
@@ -404,8 +361,7 @@ impl<'a, L: Ledger, R: Read, W: Write> Store<L> for HostStore<'a, R, W> {
         ensures failed { OnErr result (HasFailedAmong (most_asked self.old.rounds) (HasAskedUnheld self.old.node)
             (tests_request self.old.node) self.old.link self.new.link tests.now) }
         ensures broken { 1 ≤ length tests.now → StaysBroken self.old.link self.new.link result }
-        ensures node { self.new.node ≡ self.old.node }
-        ensures rounds { self.new.rounds ≡ self.old.rounds }
+        ensures same { IsSameNode self.old self.new }
     {
         let most = self.at_once();
         let mut begin = 0;

@@ -1,7 +1,7 @@
 //! One exchange with the host: a request, and the answer to it.
 ghost use Rattle.std.specs.Prelude.{◌≡◌, ℕ, ◌≤◌, ◌==◌, ◌+◌, ◌++◌, List, true, false, IfOk, OnOk, OnErr, IsErrOf, length, min};
 ghost use Rattle.std.specs.Io.KnownBytes.{Appends, Consumes};
-ghost use Rattle.pq_host.specs.Ends.{HasBegun, HasExchanged, HasFailed, StaysBroken};
+ghost use Rattle.pq_host.specs.Ends.{HasBegun, HasExchanged, HasFailed, Exchanges, Fails};
 ghost use Rattle.pq_host.specs.Frames.{number, request, places_request, rounds_request, answer, answer_head, keys_body};
 
 use crate::answer::{Head, read_head, read_keys};
@@ -114,8 +114,7 @@ impl<'a, R: Read, W: Write> Link<'a, R, W> {
         most: usize,
     ) -> Result<usize, StoreErr>
         ensures few { IfOk result (λ n. n ≤ most) }
-        ensures asked { IfOk result
-            (λ n. HasBegun self.old self.new (request op node body.now) (answer_head n)) }
+        ensures asked { IfOk result (λ n. HasBegun self.old self.new (request op node body.now) (answer_head n)) }
         ensures failed { OnErr result (HasFailed self.old self.new (request op node body.now)) }
         ensures no_memory { ¬ IsErrOf result StoreErr.NoMem }
     {
@@ -168,8 +167,7 @@ impl<'a, R: Read, W: Write> Link<'a, R, W> {
         node: u8,
         body: &[u8],
     ) -> Result<[u8; N], StoreErr>
-        ensures asked { IfOk result
-            (λ found. HasBegun self.old self.new (request op node body.now) (answer found)) }
+        ensures asked { IfOk result (λ found. HasBegun self.old self.new (request op node body.now) (answer found)) }
         ensures failed { OnErr result (HasFailed self.old self.new (request op node body.now)) }
         ensures no_memory { ¬ IsErrOf result StoreErr.NoMem }
     {
@@ -217,8 +215,7 @@ impl<'a, R: Read, W: Write> Link<'a, R, W> {
         node: u8,
         body: &[u8],
     ) -> Result<Bytes, StoreErr>
-        ensures asked { IfOk result
-            (λ found. HasBegun self.old self.new (request op node body.now) (answer found)) }
+        ensures asked { IfOk result (λ found. HasBegun self.old self.new (request op node body.now) (answer found)) }
         ensures failed { OnErr result (HasFailed self.old self.new (request op node body.now)) }
     {
         let len = self.ask(op, node, body, BODY_MOST)?;
@@ -227,11 +224,8 @@ impl<'a, R: Read, W: Write> Link<'a, R, W> {
 
     /// The first keys of the host's nodes, at most 64, as the host tells them.
     pub fn first_keys(&mut self, alloc: Global) -> Result<List<Bytes>, StoreErr>
-        ensures exchanged { IfOk result
-            (λ keys. HasExchanged self.old self.new places_request (answer (keys_body keys))) }
+        ensures asks { Exchanges self.old self.new places_request keys_body result }
         ensures few { IfOk result (λ keys. length keys ≤ 64) }
-        ensures failed { OnErr result (HasFailed self.old self.new places_request) }
-        ensures broken { StaysBroken self.old self.new result }
     {
         let body = self.ask_body(alloc, Op::Places, 0, &[])?;
         let keys = read_keys(alloc, body.items())?;
@@ -243,8 +237,7 @@ impl<'a, R: Read, W: Write> Link<'a, R, W> {
     pub fn knows_rounds(&mut self, alloc: Global) -> Result<bool, StoreErr>
         ensures exchanged { IfOk result (λ knows. (n : ℕ) × (knows ≡ (n == 2))
             × HasExchanged self.old self.new rounds_request (answer (number n))) }
-        ensures failed { OnErr result (HasFailed self.old self.new rounds_request) }
-        ensures broken { StaysBroken self.old self.new result }
+        ensures fails { Fails self.old self.new rounds_request result }
     {
         let body = range_body(alloc, &[NO_KEY], &[NO_KEY], KNOWN)?;
         let number = self.ask_exact::<4>(Op::Count, 0, body.items())?;

@@ -4,7 +4,7 @@ ghost use Rattle.std.specs.List.{AllZip};
 ghost use Rattle.pq_store.specs.Content.{HasCause};
 ghost use Rattle.pq_store.specs.Counts.{raised_counts};
 ghost use Rattle.pq_store.specs.Rounds.{Affords, Pays, IsValueAnswered, IsPartAsked, one_if_some, least_entries, most_entries, sum_made, test_entries, AreTestsCounted};
-ghost use Rattle.pq_host.specs.Ends.{HasExchanged, HasFailed, StaysBroken, HasAskedValues, HasAskedParts, HasAskedTests, any_answer, most_asked, most_ranges};
+ghost use Rattle.pq_host.specs.Ends.{HasExchanged, HasFailed, Exchanges, Fails, IsSameNode, IsStill, HasAskedValues, HasAskedParts, HasAskedTests, any_answer, most_asked, most_ranges};
 ghost use Rattle.pq_host.specs.Frames.{request, answer, get_request, gets_request, values_request, parts_request, value_bytes, values_body, part_bytes, test_request, tests_request, first_held_request, place_body, told_place, TellsTest};
 
 use crate::answer::{read_parts, read_place, read_value, read_values};
@@ -99,14 +99,9 @@ impl<'a, R: Read, W: Write> HostStore<'a, R, W> {
     // The value of one key.
     fn one_value(&mut self, alloc: Global, key: &[u8]) -> Result<List<Option<Bytes>>, StoreErr>
         ensures long { IfOk result (λ found. length found ≡ 1) }
-        ensures exchanged { IfOk result (λ found. HasExchanged self.old.link self.new.link
-            (get_request self.old.node key.now) (answer (values_body (Some key.now ∷ []) found))) }
-        ensures failed { OnErr result (HasFailed self.old.link self.new.link
-            (get_request self.old.node key.now)) }
-        ensures broken { StaysBroken self.old.link self.new.link result }
-        ensures faults { self.new.faults ≡ self.old.faults }
-        ensures node { self.new.node ≡ self.old.node }
-        ensures rounds { self.new.rounds ≡ self.old.rounds }
+        ensures asks { Exchanges self.old.link self.new.link (get_request self.old.node key.now)
+            (λ found. values_body (Some key.now ∷ []) found) result }
+        ensures same { IsStill self.old self.new }
     {
         let body = self.link.ask_body(alloc, Op::Get, self.node, key)?;
         let mut found = List::new(alloc);
@@ -123,14 +118,9 @@ impl<'a, R: Read, W: Write> HostStore<'a, R, W> {
     ) -> Result<List<Option<Bytes>>, StoreErr>
         requires { length keys.now ≤ 128 }
         ensures answered { IfOk result (AllZip (IsValueAnswered any_answer) keys.now) }
-        ensures exchanged { IfOk result (λ found. HasExchanged self.old.link self.new.link
-            (gets_request self.old.node keys.now) (answer (flat_map value_bytes found))) }
-        ensures failed { OnErr result (HasFailed self.old.link self.new.link
-            (gets_request self.old.node keys.now)) }
-        ensures broken { StaysBroken self.old.link self.new.link result }
-        ensures faults { self.new.faults ≡ self.old.faults }
-        ensures node { self.new.node ≡ self.old.node }
-        ensures rounds { self.new.rounds ≡ self.old.rounds }
+        ensures asks { Exchanges self.old.link self.new.link (gets_request self.old.node keys.now)
+            (flat_map value_bytes) result }
+        ensures same { IsStill self.old self.new }
     {
         let body = gets_body(alloc, keys)?;
         let body = self
@@ -149,14 +139,9 @@ impl<'a, R: Read, W: Write> HostStore<'a, R, W> {
     ) -> Result<List<Option<Bytes>>, StoreErr>
         requires { length keys.now ≤ 128 }
         ensures answered { IfOk result (AllZip (IsValueAnswered any_answer) keys.now) }
-        ensures exchanged { IfOk result (λ found. HasExchanged self.old.link self.new.link
-            (values_request self.old.node keys.now) (answer (values_body keys.now found))) }
-        ensures failed { OnErr result (HasFailed self.old.link self.new.link
-            (values_request self.old.node keys.now)) }
-        ensures broken { StaysBroken self.old.link self.new.link result }
-        ensures faults { self.new.faults ≡ self.old.faults }
-        ensures node { self.new.node ≡ self.old.node }
-        ensures rounds { self.new.rounds ≡ self.old.rounds }
+        ensures asks { Exchanges self.old.link self.new.link (values_request self.old.node keys.now)
+            (values_body keys.now) result }
+        ensures same { IsStill self.old self.new }
     {
         match keys {
             [Some(key)] => self.one_value(alloc, key.items()),
@@ -181,10 +166,8 @@ impl<'a, R: Read, W: Write> HostStore<'a, R, W> {
         ensures counted { IfOk result (λ found. meter.new ≡ raised_counts meter.old (sum_by one_if_some keys.now)
             (sum_by one_if_some found)) }
         ensures exchanged { IfOk result (HasAskedValues self.old.node self.old.link self.new.link keys.now) }
-        ensures failed { OnErr result (HasFailed self.old.link self.new.link
-            (values_request self.old.node keys.now)) }
-        ensures node { self.new.node ≡ self.old.node }
-        ensures rounds { self.new.rounds ≡ self.old.rounds }
+        ensures failed { OnErr result (HasFailed self.old.link self.new.link (values_request self.old.node keys.now)) }
+        ensures same { IsSameNode self.old self.new }
     {
         let asked = number_of(keys);
         if asked == 0 {
@@ -211,14 +194,9 @@ impl<'a, R: Read, W: Write> HostStore<'a, R, W> {
     ) -> Result<List<List<Pair>>, StoreErr>
         requires { length asks.now ≤ 128 }
         ensures parts { IfOk result (AllZip (IsPartAsked limit) asks.now) }
-        ensures exchanged { IfOk result (λ found. HasExchanged self.old.link self.new.link
-            (parts_request self.old.node asks.now limit) (answer (flat_map part_bytes found))) }
-        ensures failed { OnErr result (HasFailed self.old.link self.new.link
-            (parts_request self.old.node asks.now limit)) }
-        ensures broken { StaysBroken self.old.link self.new.link result }
-        ensures faults { self.new.faults ≡ self.old.faults }
-        ensures node { self.new.node ≡ self.old.node }
-        ensures rounds { self.new.rounds ≡ self.old.rounds }
+        ensures asks { Exchanges self.old.link self.new.link (parts_request self.old.node asks.now limit)
+            (flat_map part_bytes) result }
+        ensures same { IsStill self.old self.new }
     {
         let (op, body) = parts_question(alloc, asks, limit)?;
         let body = self.link.ask_body(alloc, op, self.node, body.items())?;
@@ -247,8 +225,7 @@ impl<'a, R: Read, W: Write> HostStore<'a, R, W> {
         ensures exchanged { IfOk result (HasAskedParts self.old.node limit self.old.link self.new.link asks.now) }
         ensures failed { OnErr result (HasFailed self.old.link self.new.link
             (parts_request self.old.node asks.now limit)) }
-        ensures node { self.new.node ≡ self.old.node }
-        ensures rounds { self.new.rounds ≡ self.old.rounds }
+        ensures same { IsSameNode self.old self.new }
     {
         if number_of(asks) == 0 {
             return Ok(no_parts(alloc, asks, limit)?);
@@ -271,12 +248,8 @@ impl<'a, R: Read, W: Write> HostStore<'a, R, W> {
         ensures most { IfOk result (λ told. told.1 ≤ most_entries told.0 test.now) }
         ensures exchanged { IfOk result (λ told. (body : List ℕ) × TellsTest test.now body told.0 told.1
             × HasExchanged self.old.link self.new.link (test_request self.old.node test.now) (answer body)) }
-        ensures failed { OnErr result (HasFailed self.old.link self.new.link
-            (test_request self.old.node test.now)) }
-        ensures broken { StaysBroken self.old.link self.new.link result }
-        ensures faults { self.new.faults ≡ self.old.faults }
-        ensures node { self.new.node ≡ self.old.node }
-        ensures rounds { self.new.rounds ≡ self.old.rounds }
+        ensures fails { Fails self.old.link self.new.link (test_request self.old.node test.now) result }
+        ensures same { IsStill self.old self.new }
     {
         match test {
             Test::Has(key) => {
@@ -304,14 +277,9 @@ impl<'a, R: Read, W: Write> HostStore<'a, R, W> {
         ensures within { IfOk result (λ told. IfSome told.0 (λ i. i < length tests.now)) }
         ensures least { IfOk result (λ told. sum_made least_entries tests.now told.0 ≤ told.1) }
         ensures most { IfOk result (λ told. told.1 ≤ sum_made most_entries tests.now told.0) }
-        ensures exchanged { IfOk result (λ told. HasExchanged self.old.link self.new.link
-            (first_held_request self.old.node tests.now) (answer (place_body (told_place tests.now told.0) told.1))) }
-        ensures failed { OnErr result (HasFailed self.old.link self.new.link
-            (first_held_request self.old.node tests.now)) }
-        ensures broken { StaysBroken self.old.link self.new.link result }
-        ensures faults { self.new.faults ≡ self.old.faults }
-        ensures node { self.new.node ≡ self.old.node }
-        ensures rounds { self.new.rounds ≡ self.old.rounds }
+        ensures asks { Exchanges self.old.link self.new.link (first_held_request self.old.node tests.now)
+            (λ told. place_body (told_place tests.now told.0) told.1) result }
+        ensures same { IsStill self.old self.new }
     {
         let body = tests_body(alloc, tests)?;
         let answer = self
@@ -334,12 +302,8 @@ impl<'a, R: Read, W: Write> HostStore<'a, R, W> {
         ensures most { IfOk result (λ told. told.1 ≤ sum_made most_entries tests.now told.0) }
         ensures exchanged { IfOk result (λ told. HasAskedTests self.old.node self.old.link self.new.link tests.now
             told.0) }
-        ensures failed { OnErr result (HasFailed self.old.link self.new.link
-            (tests_request self.old.node tests.now)) }
-        ensures broken { StaysBroken self.old.link self.new.link result }
-        ensures faults { self.new.faults ≡ self.old.faults }
-        ensures node { self.new.node ≡ self.old.node }
-        ensures rounds { self.new.rounds ≡ self.old.rounds }
+        ensures fails { Fails self.old.link self.new.link (tests_request self.old.node tests.now) result }
+        ensures same { IsStill self.old self.new }
     {
         match tests {
             [test] => match self.asked_test(alloc, test) {
@@ -368,10 +332,8 @@ impl<'a, R: Read, W: Write> HostStore<'a, R, W> {
             (sum_by test_entries tests.now) }
         ensures counted { IfOk result (AreTestsCounted None meter.old meter.new tests.now) }
         ensures exchanged { IfOk result (HasAskedTests self.old.node self.old.link self.new.link tests.now) }
-        ensures failed { OnErr result (HasFailed self.old.link self.new.link
-            (tests_request self.old.node tests.now)) }
-        ensures node { self.new.node ≡ self.old.node }
-        ensures rounds { self.new.rounds ≡ self.old.rounds }
+        ensures failed { OnErr result (HasFailed self.old.link self.new.link (tests_request self.old.node tests.now)) }
+        ensures same { IsSameNode self.old self.new }
     {
         match self.asked_place(alloc, tests) {
             Ok((at, entries)) => {

@@ -40,8 +40,7 @@ impl<'a, R: Read, W: Write> Read for HostReader<'a, R, W> {
         ensures bound { ReadsAtMost result buf.new }
         ensures exchanged { 0 < length buf.new → IfOk result (λ n. HasExchanged self.old self.new
             (read_request (min (length buf.new) 65536)) (answer (take n buf.new))) }
-        ensures failed { OnErr result
-            (HasFailed self.old self.new (read_request (min (length buf.new) 65536))) }
+        ensures failed { OnErr result (HasFailed self.old self.new (read_request (min (length buf.new) 65536))) }
         ensures broken { 0 < length buf.new → StaysBroken self.old self.new result }
         ensures unasked { length buf.new ≡ 0 → self.new ≡ self.old }
     {

@@ -10,4 +10,4 @@ returns-in_default-clause-exchanged g c =
       | in_default-via-then-tests-lt1 w ↦ (λ one. absurd (search (rules, one)))
       | in_default-via-else-tests-lt1+else-tests-lt2 w ↦ (λ one. absurd (search (rules, one)))
     ] in
-    if_ok _ _ (λ told h. told_together c.args.self.now.node c.args.self.now.link c.place_together.new.self.link c.args.tests.now told several h) c.place_together.result c.place_together.ensures.exchanged
+    if_ok _ _ (λ told h. told_together c.args.self.now.node c.args.self.now.link c.place_together.new.self.link c.args.tests.now told several h) c.place_together.result c.place_together.ensures.asks.exchanged

@@ -107,8 +107,8 @@ loop-begin-preserved g c =
       paid = pays_then _ _ _ _ _ _ begin (sum_by test_entries (take begin tests)) _ _ _ _ h.paid one.paid (omega (arith, long, low)) (omega (arith, sums));
       counted = none_behind _ _ _ tests begin end low high h.counted (rw none at one.counted);
       asked = asked_behind c.at_once-most.result _ tests _ _ _ begin end low high few h.asked (rw (none, h.node) at one.exchanged);
-      node = one.node ∙ h.node;
-      rounds = one.rounds ∙ h.rounds;
+      node = one.same.node ∙ h.node;
+      rounds = one.same.rounds ∙ h.rounds;
     }
 
 pub returns-clause-exchanged : goal.returns-clause-exchanged

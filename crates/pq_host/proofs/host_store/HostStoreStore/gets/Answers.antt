@@ -66,8 +66,8 @@ loop-alloc-preserved g c =
       paid = pays_then _ _ _ _ _ _ (length found) (length found) _ _ _ _ h.paid one.paid (omega (arith, long, asked, low)) (omega (arith, long, asked, low));
       counted = counted_on (IsValueAnswered any_answer) all found values end low high one.answered one_if_some one_if_some _ _ _ h.counted one.counted;
       asked = asked_on (IsValueAnswered any_answer) all found values end low high one.answered c.at_once-most.result _ _ _ _ few h.asked (rw h.node at one.exchanged);
-      node = one.node ∙ h.node;
-      rounds = one.rounds ∙ h.rounds;
+      node = one.same.node ∙ h.node;
+      rounds = one.same.rounds ∙ h.rounds;
     })
 
 pub returns-in_err-values-clause-broken : goal.returns-in_err-values-clause-broken

@@ -65,8 +65,8 @@ loop-alloc-preserved g c =
       paid = pays_then _ _ _ _ _ _ (length found) (length found * c.args.limit) _ _ _ _ h.paid one.paid (omega (arith, long, asked, low)) (times_within (length found) _ _ c.args.limit (omega (arith, long, asked, low)));
       counted = counted_on (IsPartAsked c.args.limit) all found parts end low high one.parts one_if_some length _ _ _ h.counted one.counted;
       asked = asked_on (IsPartAsked c.args.limit) all found parts end low high one.parts c.ranges_at_once-most.result _ _ _ _ few h.asked (rw h.node at one.exchanged);
-      node = one.node ∙ h.node;
-      rounds = one.rounds ∙ h.rounds;
+      node = one.same.node ∙ h.node;
+      rounds = one.same.rounds ∙ h.rounds;
     })
 
 pub paid_parts-requires-clause-share : goal.paid_parts-requires-clause-share
