@@ -3,3 +3,4 @@ pub mod Settling
 pub mod Errors
 pub mod Counting
 pub mod Spending
+pub mod Writing

@@ -6,11 +6,12 @@ ghost use Rattle.pq_row_code.specs.Changes.{AreChanges};
 ghost use Rattle.pq_content.specs.Pairs.{changed_content};
 ghost use Rattle.pq_content.specs.Standing.{change_of, AreIntended};
 ghost use Rattle.pq_key_code.specs.KeyCode.{intent_key};
-ghost use Rattle.pq_store.specs.Content.{HasBrokeCause, Content, written_content};
-ghost use Rattle.pq_store.specs.Breaks.{IfDamaged, IsPresent, IsUndamaged, IsAnswered};
+ghost use Rattle.pq_store.specs.Content.{Content, written_content};
+ghost use Rattle.pq_store.specs.Breaks.{IfDamaged, IsPresent, IsUndamaged};
 ghost use Rattle.pq_intent.specs.Changing.{IfDamagedSame, IsPartway, MayChange, WantsMemory, commit_writes, intent_writes};
 ghost use Rattle.pq_intent.specs.Settling.{IsSettled, Settles, HasIntent};
-ghost use Rattle.pq_intent.specs.Spending.{Spends, write_ops};
+ghost use Rattle.pq_intent.specs.Spending.{write_ops};
+ghost use Rattle.pq_intent.specs.Writing.{WritesWithin};
 
 use crate::write::{finish, write_change};
 use pq_base::{Bytes, List};
@@ -44,11 +45,9 @@ fn put_intent<S: Store<L>, L: Ledger>(
     ensures made { OnOk result (S.content store.new
         ≡ option_map (written_content intent_key (Some code.now)) (S.content store.old)) }
     ensures partway { OnErr result (MayChange (intent_key, Some code.now) (S.content store.old) (S.content store.new)) }
-    ensures rounds { S.rounds store.new ≤ S.rounds store.old + 1 }
     ensures one { meter.new.ops ≡ meter.old.ops + 1 }
-    ensures spends { Spends 1 allowance.old allowance.new meter.old meter.new }
-    ensures cause { HasBrokeCause (S.faults store.old) (S.faults store.new) result }
-    ensures answered { IfErr result (IsAnswered S.answers) }
+    ensures within { WritesWithin S.Store 1 store.old store.new
+        allowance.old allowance.new meter.old meter.new result }
 {
     allowance.spend(0);
     match store.write(alloc, key.items(), Guard::Absent, Some(code), meter) {
@@ -83,10 +82,8 @@ fn commit_by_intent<S: Store<L>, L: Ledger>(
     ensures whole { OnOk result (IfSome (S.content store.old) (λ pairs.
         S.content store.new ≡ Some (changed_content (map change_of changes.now) pairs))) }
     ensures partway { OnErr result (IsPartway (intent_writes changes.now) (S.content store.old) (S.content store.new)) }
-    ensures rounds { S.rounds store.new ≤ S.rounds store.old + (length changes.now + 2) }
-    ensures spends { Spends (length changes.now + 2) allowance.old allowance.new meter.old meter.new }
-    ensures cause { HasBrokeCause (S.faults store.old) (S.faults store.new) result }
-    ensures answered { IfErr result (IsAnswered S.answers) }
+    ensures within { WritesWithin S.Store (length changes.now + 2) store.old store.new
+        allowance.old allowance.new meter.old meter.new result }
 {
     let key = intent_key(alloc)?;
     let code = encode_changes(alloc, changes)?;
@@ -130,10 +127,8 @@ pub fn commit<S: Store<L>, L: Ledger>(
         S.content store.new ≡ Some (changed_content (map change_of changes) pairs))) }
     ensures partway { OnErr result (IsPartway (commit_writes changes) (S.content store.old) (S.content store.new)) }
     // Over every store, told or not, and also on an error.
-    ensures rounds { S.rounds store.new ≤ S.rounds store.old + write_ops (length changes) }
-    ensures spends { Spends (write_ops (length changes)) allowance.old allowance.new meter.old meter.new }
-    ensures cause { HasBrokeCause (S.faults store.old) (S.faults store.new) result }
-    ensures answered { IfErr result (IsAnswered S.answers) }
+    ensures within { WritesWithin S.Store (write_ops (length changes)) store.old store.new
+        allowance.old allowance.new meter.old meter.new result }
 {
     match changes.items() {
         [change] => write_change(alloc, change, store, allowance, meter),

@@ -29,14 +29,14 @@ pub returns-clause-made : goal.returns-clause-made
 returns-clause-made g c =
     let steps : map change_of c.items-3.result.now ++ (c.items-2.result.now, None) ∷ [] ≡ with_removal c.args.changes.now = steps_are c.items-3.result.now c.args.changes.now c.items-2.result.now c.items-3.ensures (c.items-2.ensures ∙ c.in_ok-key-2.ensures.back) in
     on_ok_weaker c.finish.result (λ made pairs s. commit_made pairs c.args.changes.now s.no_intent c.requires.coded c.requires.intended (g.S.Store.content c.put_intent.new.store) (g.S.Store.content c.finish.new.store) c.items.result.now (c.in_ok-key-2.ensures.put pairs s)
-    (made ∙ ap (λ (l : List Change). content_after l (g.S.Store.content c.put_intent.new.store)) steps)) c.finish.ensures.made
+    (made ∙ ap (λ (l : List Change). content_after l (g.S.Store.content c.put_intent.new.store)) steps)) c.finish.ensures.makes.made
 
 pub returns-clause-stopped : goal.returns-clause-stopped
 returns-clause-stopped g c =
     let code : c.items.result.now ≡ changes_code c.args.changes.now = c.items.ensures ∙ c.in_ok-code.ensures in
     let steps : map change_of c.items-3.result.now ++ (c.items-2.result.now, None) ∷ [] ≡ with_removal c.args.changes.now = steps_are c.items-3.result.now c.args.changes.now c.items-2.result.now c.items-3.ensures (c.items-2.ensures ∙ c.in_ok-key-2.ensures.back) in
     on_err_weaker c.finish.result (λ partway pairs s. commit_stopped pairs c.args.changes.now s.no_intent c.requires.coded c.requires.intended (g.S.Store.content c.put_intent.new.store) (g.S.Store.content c.finish.new.store) c.items.result.now code (c.in_ok-key-2.ensures.put pairs s)
-    (subst (λ (l : List Change). IsPartway l (g.S.Store.content c.put_intent.new.store) (g.S.Store.content c.finish.new.store)) steps partway)) c.finish.ensures.stopped
+    (subst (λ (l : List Change). IsPartway l (g.S.Store.content c.put_intent.new.store) (g.S.Store.content c.finish.new.store)) steps partway)) c.finish.ensures.makes.stopped
 
 pub returns-in_err-key-clause-memory : goal.returns-in_err-key-clause-memory
 returns-in_err-key-clause-memory g c = λ want pairs s. inl (refl, refl)
@@ -53,13 +53,13 @@ returns-clause-memory g c = λ want pairs s.
     let steps : map change_of c.items-3.result.now ++ (c.items-2.result.now, None) ∷ [] ≡ with_removal c.args.changes.now = steps_are c.items-3.result.now c.args.changes.now c.items-2.result.now c.items-3.ensures (c.items-2.ensures ∙ c.in_ok-key-2.ensures.back) in
     let put = c.in_ok-key-2.ensures.put pairs s ∙ ap (λ (v : List ℕ). Some (insert pairs intent_key v)) code ∙ ap (content_after ((intent_key, Some (changes_code c.args.changes.now)) ∷ [])) (sym s.told) in
     inr (stops_behind (intent_key, Some (changes_code c.args.changes.now)) (with_removal c.args.changes.now) c.args.meter.now c.put_intent.new.meter c.finish.new.meter (g.S.Store.content c.args.store.now) (g.S.Store.content c.put_intent.new.store) (g.S.Store.content c.finish.new.store) c.put_intent.ensures.one put
-    (subst (λ (l : List Change). StopsBefore l c.put_intent.new.meter c.finish.new.meter (g.S.Store.content c.put_intent.new.store) (g.S.Store.content c.finish.new.store)) steps (c.finish.ensures.memory want)))
+    (subst (λ (l : List Change). StopsBefore l c.put_intent.new.meter c.finish.new.meter (g.S.Store.content c.put_intent.new.store) (g.S.Store.content c.finish.new.store)) steps (c.finish.ensures.makes.memory want)))
 
 pub returns-clause-whole : goal.returns-clause-whole
 returns-clause-whole g c =
     let steps : map change_of c.items-3.result.now ++ (c.items-2.result.now, None) ∷ [] ≡ with_removal c.args.changes.now = steps_are c.items-3.result.now c.args.changes.now c.items-2.result.now c.items-3.ensures (c.items-2.ensures ∙ c.in_ok-key-2.ensures.back) in
     on_ok_weaker c.finish.result (λ made. whole_made c.args.changes.now (g.S.Store.content c.args.store.now) (g.S.Store.content c.put_intent.new.store) (g.S.Store.content c.finish.new.store) c.items.result.now c.requires.coded c.requires.intended (λ has. false≢true (c.in_ok-key-2.ensures.taken has).0) c.in_ok-key-2.ensures.put
-    (made ∙ ap (λ (l : List Change). content_after l (g.S.Store.content c.put_intent.new.store)) steps)) c.finish.ensures.made
+    (made ∙ ap (λ (l : List Change). content_after l (g.S.Store.content c.put_intent.new.store)) steps)) c.finish.ensures.makes.made
 
 pub returns-clause-partway : goal.returns-clause-partway
 returns-clause-partway g c =
@@ -67,4 +67,4 @@ returns-clause-partway g c =
     let steps : map change_of c.items-3.result.now ++ (c.items-2.result.now, None) ∷ [] ≡ with_removal c.args.changes.now = steps_are c.items-3.result.now c.args.changes.now c.items-2.result.now c.items-3.ensures (c.items-2.ensures ∙ c.in_ok-key-2.ensures.back) in
     let put = c.in_ok-key-2.ensures.made ∙ ap (λ (v : List ℕ). option_map (written_content intent_key (Some v)) (g.S.Store.content c.args.store.now)) code in
     on_err_weaker c.finish.result (λ partway. partway_behind (intent_key, Some (changes_code c.args.changes.now)) (with_removal c.args.changes.now) (g.S.Store.content c.args.store.now) (g.S.Store.content c.put_intent.new.store) (g.S.Store.content c.finish.new.store) put
-    (subst (λ (l : List Change). IsPartway l (g.S.Store.content c.put_intent.new.store) (g.S.Store.content c.finish.new.store)) steps partway)) c.finish.ensures.stopped
+    (subst (λ (l : List Change). IsPartway l (g.S.Store.content c.put_intent.new.store) (g.S.Store.content c.finish.new.store)) steps partway)) c.finish.ensures.makes.stopped
