@@ -1,8 +1,10 @@
 -- What a build makes of any content that is told, at whichever call it stops, and what it uses.
-use Rattle.std.specs.Prelude.{◌≡◌, ◌⊎◌, ℕ, ◌+◌, ◌*◌, ◌/◌, ◌<◌, ◌≤◌, List, ◌∷◌, length, Option, Some, None}
+use Rattle.std.specs.Prelude.{◌≡◌, ◌⊎◌, ℕ, ◌+◌, ◌*◌, ◌/◌, ◌<◌, ◌≤◌, List, ◌∷◌, length, Option, Some, None, Result, OnOk, IfErr}
 use Rattle.std.specs.FinMap.{get, insert}
-use Rattle.pq_store.specs.Breaks.{IfDamaged, IsPresent}
-use Rattle.pq_store.specs.Content.{Content}
+use Rattle.pq_store.specs.Breaks.{IfDamaged, IsPresent, IsAnsweredBut}
+use Rattle.pq_store.specs.Content.{Content, HasBrokeCause}
+use Rattle.pq_store.specs.declared.store.Store.{Ghosts}
+use Rattle.pq_intent.specs.Changing.{StaysUntold}
 use Rattle.pq_store.specs.Counts.{Counts}
 use Rattle.pq_store.specs.declared.damage.Broke.{Broke}
 use Rattle.pq_store.specs.declared.damage.Damage.{Damage}
@@ -11,7 +13,23 @@ use Rattle.pq_builds.specs.declared.build.Built.TheVariants as built
 use Rattle.pq_builds.specs.declared.mark.TheConstants.{READY, BUILDING}
 use Rattle.pq_builds.specs.declared.target.NewQuery.{NewQuery}
 use Rattle.pq_builds.specs.declared.target.Target.{Target}
-use Rattle.pq_builds.specs.Filling.{Enters, EntersSome, target_shape, row_pairs_in, IsNoRowAmong}
+use Rattle.pq_builds.specs.Filling.{Enters, EntersSome, target_shape, row_pairs_in, IsNoRowAmong, NamesKey}
+
+-- ---- what every call promises of a store, told or not
+
+module _ {S L : Type 0} (s : Ghosts S L) where
+  -- a store that told nothing tells nothing still, and an error has its cause
+  pub record ChangesStore (before after : S) {A : Type 0} (result : Result A Broke) : Type 0 where
+    pub untold : StaysUntold (s.content before) (s.content after)
+    pub cause : HasBrokeCause (s.faults before) (s.faults after) result
+
+  -- and damage is what was answered, or has no value and names the key of the definition
+  pub record ChangesNaming (key : List ℕ) (before after : S) {A : Type 0} (result : Result A Broke) : Type 0 where
+    pub changes : ChangesStore before after result
+    pub names : IfErr result (NamesKey key)
+    pub answered : IfErr result (IsAnsweredBut s.answers key)
+
+-- ---- values of a definition
 
 -- the format of a definition, its mark and its text
 abbrev pub marked_value : NewQuery → ℕ → List ℕ
@@ -120,6 +138,12 @@ left_ops count = count + count / 256 + 3
 pub record Takes (ops entries : ℕ) (before after : Counts) : Type 0 where
   pub ops_are : after.ops ≡ before.ops + ops
   pub entries_are : after.entries ≡ before.entries + entries
+
+-- just so many where all is done; else no more operations, and no more entries than those that a store may give
+pub record TakesOrLess (ops entries most : ℕ) (before after : Counts) {A : Type 0} (result : Result A Broke) : Type 0 where
+  pub takes : OnOk result (Takes ops entries before after)
+  pub few_ops : after.ops ≤ before.ops + ops
+  pub few_entries : after.entries ≤ before.entries + most
 
 abbrev pub TakesBuild : Built → Counts → Counts → Type 0
 TakesBuild (built.Rows count) before after = Takes (build_ops count) (2 * count) before after

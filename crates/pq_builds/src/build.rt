@@ -1,13 +1,11 @@
 //! Builds: from no definition to a ready one, and of one that was left.
 ghost use Rattle.std.specs.Prelude.{◌≡◌, ◌≤◌, ◌+◌, ◌*◌, ◌⊎◌, false, Some, length, IfOk, IfErr, IfSome, OnOk, OnErr};
 ghost use Rattle.pq_content.specs.Pairs.{is_of_rows};
-ghost use Rattle.pq_store.specs.Breaks.{IfDamaged, IsPresent, IsUndamaged, IsAnsweredBut};
-ghost use Rattle.pq_store.specs.Content.{HasBrokeCause};
+ghost use Rattle.pq_store.specs.Breaks.{IfDamaged, IsPresent, IsUndamaged};
 ghost use Rattle.pq_intent.specs.Spending.{TakesAtMost};
-ghost use Rattle.pq_intent.specs.Changing.{StaysUntold};
 ghost use Rattle.pq_builds.specs.Bounds.{build_bound, left_bound};
-ghost use Rattle.pq_builds.specs.Filling.{target_shape, row_pairs_in, IsNoRowAmong, NamesKey, fill_ops};
-ghost use Rattle.pq_builds.specs.Stages.{marked_value, IsMarked, IsReady, IsBuilt, StopsFilling, StopsBuilding, ShowsBuild, ShowsLeft, RanBuild, Takes, TakesBuild, IsFew, IsWithinBuild, build_ops, left_ops};
+ghost use Rattle.pq_builds.specs.Filling.{target_shape, row_pairs_in, IsNoRowAmong, fill_ops};
+ghost use Rattle.pq_builds.specs.Stages.{marked_value, IsMarked, IsReady, IsBuilt, StopsFilling, StopsBuilding, ShowsBuild, ShowsLeft, RanBuild, Takes, TakesBuild, TakesOrLess, ChangesNaming, IsFew, IsWithinBuild, build_ops, left_ops};
 ghost use Rattle.pq_builds.specs.Standing.{Origin, HoldsOrigin, HoldsFilling, IsMarkedOrReady, Makes, Leaves, rows_in};
 
 use crate::count::count_rows;
@@ -48,13 +46,10 @@ fn mark<S: Store<L>, L: Ledger>(
         (S.content store.new ≡ Some c) ⊎ IsMarked query.now c (S.content store.new))) }
     ensures shown { IfErr result (λ broke. IfSome (S.content store.old) (λ c.
         IfDamaged (IsPresent query.now.key c) broke)) }
-    ensures names { IfErr result (NamesKey query.now.key) }
-    ensures answered { IfErr result (IsAnsweredBut S.answers query.now.key) }
+    ensures over { ChangesNaming S.Store query.now.key store.old store.new result }
     ensures takes { OnOk result (Takes 1 0 meter.old meter.new) }
     ensures few { meter.new.ops ≤ meter.old.ops + 1 }
     ensures entries { meter.new.entries ≡ meter.old.entries }
-    ensures untold { StaysUntold (S.content store.old) (S.content store.new) }
-    ensures cause { HasBrokeCause (S.faults store.old) (S.faults store.new) result }
 {
     let value = value_of(alloc, query, BUILDING)?;
     let key = Bytes::of_bytes(alloc, query.key.items())?;
@@ -88,15 +83,10 @@ fn finish<S: Store<L>, L: Ledger>(
     ensures shown { IfErr result (λ broke. IfSome (S.content store.old) (λ c.
         length (row_pairs_in target.now.table c) ≡ count
         → IfDamaged (IsNoRowAmong (target_shape target.now) (row_pairs_in target.now.table c)) broke)) }
-    ensures names { IfErr result (NamesKey query.now.key) }
-    ensures answered { IfErr result (IsAnsweredBut S.answers query.now.key) }
-    ensures takes { OnOk result (Takes (fill_ops count + 1) count meter.old meter.new) }
-    ensures few_ops { meter.new.ops ≤ meter.old.ops + (fill_ops count + 1) }
-    ensures few_entries { meter.new.entries ≤ meter.old.entries + (count + 256) }
+    ensures over { ChangesNaming S.Store query.now.key store.old store.new result }
+    ensures takes { TakesOrLess (fill_ops count + 1) count (count + 256) meter.old meter.new result }
     ensures told { OnErr result (IfSome (S.content store.old) (λ c.
         length (row_pairs_in target.now.table c) ≡ count → meter.new.entries ≤ meter.old.entries + count)) }
-    ensures untold { StaysUntold (S.content store.old) (S.content store.new) }
-    ensures cause { HasBrokeCause (S.faults store.old) (S.faults store.new) result }
 {
     let value = value_of(alloc, query, READY)?;
     fill_rows(alloc, target, query.key.items(), count, store, meter)?;
@@ -121,15 +111,10 @@ fn build_rows<S: Store<L>, L: Ledger>(
         → StopsBuilding target.now query.now c (S.content store.new))) }
     ensures shown { IfErr result (λ broke. IfSome (S.content store.old) (λ c.
         length (row_pairs_in target.now.table c) ≡ count → ShowsBuild target.now query.now c broke)) }
-    ensures names { IfErr result (NamesKey query.now.key) }
-    ensures answered { IfErr result (IsAnsweredBut S.answers query.now.key) }
-    ensures takes { OnOk result (Takes (fill_ops count + 2) count meter.old meter.new) }
-    ensures few_ops { meter.new.ops ≤ meter.old.ops + (fill_ops count + 2) }
-    ensures few_entries { meter.new.entries ≤ meter.old.entries + (count + 256) }
+    ensures over { ChangesNaming S.Store query.now.key store.old store.new result }
+    ensures takes { TakesOrLess (fill_ops count + 2) count (count + 256) meter.old meter.new result }
     ensures told { OnErr result (IfSome (S.content store.old) (λ c.
         length (row_pairs_in target.now.table c) ≡ count → meter.new.entries ≤ meter.old.entries + count)) }
-    ensures untold { StaysUntold (S.content store.old) (S.content store.new) }
-    ensures cause { HasBrokeCause (S.faults store.old) (S.faults store.new) result }
 {
     mark(alloc, query, store, meter)?;
     finish(alloc, target, query, count, store, meter)
@@ -150,16 +135,13 @@ fn run_build<S: Store<L>, L: Ledger>(
         StopsBuilding target.now query.now c (S.content store.new))) }
     ensures shown { IfErr result (λ broke. IfSome (S.content store.old) (λ c.
         ShowsBuild target.now query.now c broke)) }
-    ensures names { IfErr result (NamesKey query.now.key) }
-    ensures answered { IfErr result (IsAnsweredBut S.answers query.now.key) }
+    ensures over { ChangesNaming S.Store query.now.key store.old store.new result }
     ensures unchanged { IfOk result (λ built. built ≡ Built.TooMany → S.content store.new ≡ S.content store.old) }
     ensures few { IfOk result IsFew }
     ensures takes { IfOk result (λ built. TakesBuild built meter.old meter.new) }
     ensures within { OnErr result (IsWithinBuild build_ops meter.old meter.new) }
     ensures within_own { OnErr result (IfSome (S.content store.old) (λ c.
         TakesAtMost (build_bound (length (row_pairs_in target.now.table c))) meter.old meter.new)) }
-    ensures untold { StaysUntold (S.content store.old) (S.content store.new) }
-    ensures cause { HasBrokeCause (S.faults store.old) (S.faults store.new) result }
 {
     match count_rows(alloc, target.table, store, meter)? {
         None => Ok(Built::TooMany),
@@ -183,15 +165,12 @@ fn run_completion<S: Store<L>, L: Ledger>(
     ensures few { IfOk result (λ count. count ≤ 1000000) }
     ensures ended { OnErr result (IfSome (S.content store.old) (λ c.
         StopsFilling target.now query.now c (S.content store.new))) }
-    ensures shown { IfErr result (λ broke. IfSome (S.content store.old) (λ c.
-        ShowsLeft target.now query.now c broke)) }
-    ensures names { IfErr result (NamesKey query.now.key) }
-    ensures answered { IfErr result (IsAnsweredBut S.answers query.now.key) }
+    ensures shown { IfErr result (λ broke. IfSome (S.content store.old) (λ c. ShowsLeft target.now query.now c broke)) }
+    ensures over { ChangesNaming S.Store query.now.key store.old store.new result }
     ensures takes { IfOk result (λ count. Takes (left_ops count) (2 * count) meter.old meter.new) }
     ensures within { OnErr result (IsWithinBuild left_ops meter.old meter.new) }
     ensures within_own { OnErr result (IfSome (S.content store.old) (λ c.
         TakesAtMost (left_bound (length (row_pairs_in target.now.table c))) meter.old meter.new)) }
-    ensures cause { HasBrokeCause (S.faults store.old) (S.faults store.new) result }
 {
     let counted = count_rows(alloc, target.table, store, meter)?;
     match counted {
@@ -234,14 +213,11 @@ pub fn build_index<S: Store<L>, L: Ledger>(
         TakesAtMost (build_bound (length (row_pairs_in target.now.table c))) meter.old meter.new)) }
     // Over every store, told or not. Damage that has no value names the definition's key: it was there,
     // or the ranges gave another number of rows than the count.
-    ensures names { IfErr result (NamesKey query.now.key) }
-    ensures answered { IfErr result (IsAnsweredBut S.answers query.now.key) }
+    ensures over { ChangesNaming S.Store query.now.key store.old store.new result }
     ensures unchanged { IfOk result (λ built. built ≡ Built.TooMany → S.content store.new ≡ S.content store.old) }
     ensures few { IfOk result IsFew }
     ensures takes { IfOk result (λ built. TakesBuild built meter.old meter.new) }
     ensures within { OnErr result (IsWithinBuild build_ops meter.old meter.new) }
-    ensures untold { StaysUntold (S.content store.old) (S.content store.new) }
-    ensures cause { HasBrokeCause (S.faults store.old) (S.faults store.new) result }
 {
     run_build(alloc, target, query, store, meter)
 }
@@ -270,17 +246,14 @@ pub fn complete_index<S: Store<L>, L: Ledger>(
         (length (row_pairs_in target.now.table c) ≡ count) × IsReady target.now query.now c (S.content store.new))) }
     ensures ended { OnErr result (IfSome (S.content store.old) (λ c.
         StopsFilling target.now query.now c (S.content store.new))) }
-    ensures shown { IfErr result (λ broke. IfSome (S.content store.old) (λ c.
-        ShowsLeft target.now query.now c broke)) }
+    ensures shown { IfErr result (λ broke. IfSome (S.content store.old) (λ c. ShowsLeft target.now query.now c broke)) }
     ensures within_own { OnErr result (IfSome (S.content store.old) (λ c.
         TakesAtMost (left_bound (length (row_pairs_in target.now.table c))) meter.old meter.new)) }
     // Over every store, told or not. A store may give other rows than it counts, and with them one range more.
     ensures few { IfOk result (λ count. count ≤ 1000000) }
-    ensures names { IfErr result (NamesKey query.now.key) }
-    ensures answered { IfErr result (IsAnsweredBut S.answers query.now.key) }
+    ensures over { ChangesNaming S.Store query.now.key store.old store.new result }
     ensures takes { IfOk result (λ count. Takes (left_ops count) (2 * count) meter.old meter.new) }
     ensures within { OnErr result (IsWithinBuild left_ops meter.old meter.new) }
-    ensures cause { HasBrokeCause (S.faults store.old) (S.faults store.new) result }
 {
     run_completion(alloc, target, query, store, meter)
 }

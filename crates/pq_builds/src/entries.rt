@@ -3,10 +3,11 @@ ghost use Rattle.std.specs.Prelude.{◌≡◌, ◌≤◌, ◌+◌, ◌∷◌, []
 ghost use Rattle.std.specs.Option.{option_map};
 ghost use Rattle.pq_row_code.specs.StoredRow.{IsNoRowCode};
 ghost use Rattle.pq_store.specs.Breaks.{IfDamaged, IsUndamaged};
-ghost use Rattle.pq_store.specs.Content.{HasBrokeCause, entry, written_content};
+ghost use Rattle.pq_store.specs.Content.{entry, written_content};
 ghost use Rattle.pq_store.specs.Counts.{charged_counts};
-ghost use Rattle.pq_intent.specs.Changing.{MayChange, StaysUntold};
+ghost use Rattle.pq_intent.specs.Changing.{MayChange};
 ghost use Rattle.pq_builds.specs.Filling.{IsEntryIn, Enters, EntersSome, target_shape, IsNoRowPair, IsNoRowAmong, HasValue};
+ghost use Rattle.pq_builds.specs.Stages.{ChangesStore};
 
 use crate::target::{Target, entry_of};
 use pq_base::{Bytes, NoMem};
@@ -28,8 +29,7 @@ pub(crate) fn put<S: Store<L>, L: Ledger>(
     ensures stopped { OnErr result (MayChange (key.now, Some value.now) (S.content store.old) (S.content store.new)) }
     ensures sound { IfErr result IsUndamaged }
     ensures meter { meter.new ≡ charged_counts meter.old 0 }
-    ensures untold { StaysUntold (S.content store.old) (S.content store.new) }
-    ensures cause { HasBrokeCause (S.faults store.old) (S.faults store.new) result }
+    ensures over { ChangesStore S.Store store.old store.new result }
 {
     match store.write(alloc, key, Guard::Any, Some(value), meter) {
         Ok(_) => Ok(()),
@@ -80,8 +80,7 @@ fn write_entry<S: Store<L>, L: Ledger>(
     ensures one { OnOk result (meter.new.ops ≡ meter.old.ops + 1) }
     ensures few { meter.new.ops ≤ meter.old.ops + 1 }
     ensures entries { meter.new.entries ≡ meter.old.entries }
-    ensures untold { StaysUntold (S.content store.old) (S.content store.new) }
-    ensures cause { HasBrokeCause (S.faults store.old) (S.faults store.new) result }
+    ensures over { ChangesStore S.Store store.old store.new result }
 {
     match entry_in(alloc, target, pair)? {
         None => Err(Broke::Damaged(damage_of(alloc, pair)?)),
@@ -106,8 +105,7 @@ pub(crate) fn write_entries<S: Store<L>, L: Ledger>(
     ensures each { OnOk result (meter.new.ops ≡ meter.old.ops + length pairs.now) }
     ensures few { meter.new.ops ≤ meter.old.ops + length pairs.now }
     ensures entries { meter.new.entries ≡ meter.old.entries }
-    ensures untold { StaysUntold (S.content store.old) (S.content store.new) }
-    ensures cause { HasBrokeCause (S.faults store.old) (S.faults store.new) result }
+    ensures over { ChangesStore S.Store store.old store.new result }
 {
     for pair in pairs {
         write_entry(alloc, target, pair, store, meter)?;

@@ -1,10 +1,10 @@
 //! The entries of all rows of a table, read by ranges.
 ghost use Rattle.std.specs.Prelude.{◌≡◌, ◌≤◌, ◌+◌, ◌/◌, true, None, length, map, IfOk, IfErr, IfSome, OnOk, OnErr};
 ghost use Rattle.pq_content.specs.Pairs.{is_in_space};
-ghost use Rattle.pq_store.specs.Breaks.{IfDamaged, IsAnsweredBut};
-ghost use Rattle.pq_store.specs.Content.{pairs_within, HasBrokeCause, entry};
-ghost use Rattle.pq_intent.specs.Changing.{StaysUntold};
-ghost use Rattle.pq_builds.specs.Filling.{first_key, past_key, row_pairs_in, IsPast, Enters, EntersSome, Follows, target_shape, ShowsRange, IsNoRowAmong, NamesKey, fill_ops};
+ghost use Rattle.pq_store.specs.Breaks.{IfDamaged};
+ghost use Rattle.pq_store.specs.Content.{pairs_within, entry};
+ghost use Rattle.pq_builds.specs.Filling.{first_key, past_key, row_pairs_in, IsPast, Enters, EntersSome, Follows, target_shape, ShowsRange, IsNoRowAmong, fill_ops};
+ghost use Rattle.pq_builds.specs.Stages.{ChangesNaming, TakesOrLess};
 
 use crate::entries::write_entries;
 use crate::target::Target;
@@ -73,17 +73,11 @@ fn fill_next<S: Store<L>, L: Ledger>(
         EntersSome target.now (pairs_within c low (past_key target.now.table)) c (S.content store.new))) }
     ensures damage { IfErr result (λ broke. IfSome (S.content store.old) (λ c.
         ShowsRange (target_shape target.now) number (pairs_within c low (past_key target.now.table)) broke)) }
-    ensures names { IfErr result (NamesKey key.now) }
-    ensures answered { IfErr result (IsAnsweredBut S.answers key.now) }
-    ensures each { OnOk result (meter.new.ops ≡ meter.old.ops + (number + 1)) }
-    ensures each_entry { OnOk result (meter.new.entries ≡ meter.old.entries + number) }
-    ensures few { meter.new.ops ≤ meter.old.ops + (number + 1) }
-    ensures few_entries { meter.new.entries ≤ meter.old.entries + 256 }
+    ensures over { ChangesNaming S.Store key.now store.old store.new result }
+    ensures takes { TakesOrLess (number + 1) number 256 meter.old meter.new result }
     // Over a told content, at most the pairs that are there.
     ensures told { IfSome (S.content store.old) (λ c.
         meter.new.entries ≤ meter.old.entries + length (pairs_within c low (past_key target.now.table))) }
-    ensures untold { StaysUntold (S.content store.old) (S.content store.new) }
-    ensures cause { HasBrokeCause (S.faults store.old) (S.faults store.new) result }
 {
     let high = past_key(alloc, target.table)?;
     let found = match store.range(alloc, low.items(), high.items(), ROWS, meter) {
@@ -117,16 +111,10 @@ pub(crate) fn fill_rows<S: Store<L>, L: Ledger>(
         length (row_pairs_in target.now.table c) ≡ count
         → IfDamaged (IsNoRowAmong (target_shape target.now) (row_pairs_in target.now.table c)) broke)) }
     // Over every store, told or not.
-    ensures names { IfErr result (NamesKey key.now) }
-    ensures answered { IfErr result (IsAnsweredBut S.answers key.now) }
-    ensures each { OnOk result (meter.new.ops ≡ meter.old.ops + fill_ops count) }
-    ensures each_entry { OnOk result (meter.new.entries ≡ meter.old.entries + count) }
-    ensures few { meter.new.ops ≤ meter.old.ops + fill_ops count }
-    ensures few_entries { meter.new.entries ≤ meter.old.entries + (count + 256) }
+    ensures over { ChangesNaming S.Store key.now store.old store.new result }
+    ensures takes { TakesOrLess (fill_ops count) count (count + 256) meter.old meter.new result }
     ensures told { OnErr result (IfSome (S.content store.old) (λ c.
         length (row_pairs_in target.now.table c) ≡ count → meter.new.entries ≤ meter.old.entries + count)) }
-    ensures untold { StaysUntold (S.content store.old) (S.content store.new) }
-    ensures cause { HasBrokeCause (S.faults store.old) (S.faults store.new) result }
 {
     let mut low = first_key(alloc, target.table)?;
     for full in 0..count / ROWS {

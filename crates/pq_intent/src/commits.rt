@@ -46,8 +46,7 @@ fn put_intent<S: Store<L>, L: Ledger>(
         ≡ option_map (written_content intent_key (Some code.now)) (S.content store.old)) }
     ensures partway { OnErr result (MayChange (intent_key, Some code.now) (S.content store.old) (S.content store.new)) }
     ensures one { meter.new.ops ≡ meter.old.ops + 1 }
-    ensures within { WritesWithin S.Store 1 store.old store.new
-        allowance.old allowance.new meter.old meter.new result }
+    ensures within { WritesWithin S.Store 1 store.old store.new allowance.old allowance.new meter.old meter.new result }
 {
     allowance.spend(0);
     match store.write(alloc, key.items(), Guard::Absent, Some(code), meter) {

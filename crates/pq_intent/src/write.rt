@@ -20,8 +20,7 @@ pub fn put<S: Store<L>, L: Ledger>(
 ) -> Result<(), Broke>
     requires { 1 ≤ allowance.old.left.ops }
     ensures makes { MakesOne S.Store (key.now, option_copied new.entry) store.old store.new result }
-    ensures within { WritesWithin S.Store 1 store.old store.new
-        allowance.old allowance.new meter.old meter.new result }
+    ensures within { WritesWithin S.Store 1 store.old store.new allowance.old allowance.new meter.old meter.new result }
     ensures one { meter.new.ops ≡ meter.old.ops + 1 }
 {
     allowance.spend(0);
@@ -41,8 +40,7 @@ pub fn write_change<S: Store<L>, L: Ledger>(
 ) -> Result<(), Broke>
     requires { 1 ≤ allowance.old.left.ops }
     ensures makes { MakesOne S.Store (change_of change.now) store.old store.new result }
-    ensures within { WritesWithin S.Store 1 store.old store.new
-        allowance.old allowance.new meter.old meter.new result }
+    ensures within { WritesWithin S.Store 1 store.old store.new allowance.old allowance.new meter.old meter.new result }
     ensures one { meter.new.ops ≡ meter.old.ops + 1 }
 {
     let key = change.key.items();

@@ -1,4 +1,4 @@
-use Rattle.std.proofs.Common.{◌≡◌, ◌∙◌, refl, sym, ap, subst, map, length, List, arith}
+use Rattle.std.proofs.Common.{◌≡◌, ◌∙◌, refl, sym, ap, subst, map, length, List, arith, rules}
 use Rattle.std.proofs.lemmas.List.{length-map}
 use Rattle.std.proofs.lemmas.Result.{err_from_is_err_and}
 use Rattle.pq_store.specs.Content.{entry}
@@ -55,10 +55,14 @@ returns-clause-told g c = range_told c.args.target.now.table c.args.low c.items.
 pub returns-then-items-number-clause-stopped : goal.returns-then-items-number-clause-stopped
 returns-then-items-number-clause-stopped g c = some_same c.args.target.now c.args.target.now.table c.args.low (g.S.Store.content c.args.store.now) _ c.range.ensures.same
 
-pub returns-in_err-write_entries-clause-answered : goal.returns-in_err-write_entries-clause-answered
-returns-in_err-write_entries-clause-answered g c =
+pub returns-in_err-write_entries-clause-over : goal.returns-in_err-write_entries-clause-over
+returns-in_err-write_entries-clause-over g c =
     let p = err_from_is_err_and c.from_residual-in_err-write_entries.result c.from_residual-in_err-write_entries.ensures.1 in
-    rw (p.1, p.2) (among_answered g.S.Store.answers c.args.key.now (target_shape c.args.target.now) (map entry c.items-5.result.now) (rw c.items-5.ensures c.in-Ok.ensures.answered) _ c.in_err-write_entries.ensures.damage)
+    record {
+      changes = search rules;
+      names = search rules;
+      answered = rw (p.1, p.2) (among_answered g.S.Store.answers c.args.key.now (target_shape c.args.target.now) (map entry c.items-5.result.now) (rw c.items-5.ensures c.in-Ok.ensures.answered) _ c.in_err-write_entries.ensures.damage);
+    }
 
 pub returns-in_err-high-clause-stopped : goal.returns-in_err-high-clause-stopped
 returns-in_err-high-clause-stopped g c = on_err_holds c.from_residual.result (some_same c.args.target.now c.args.target.now.table c.args.low (g.S.Store.content c.args.store.now) _ refl)

@@ -22,10 +22,10 @@ loop-full-preserved g c = record {
       subst (λ (n : ℕ). IfSome (g.S.Store.content c.args.store.now) (λ c'. Follows c.args.target.now (first_key c.args.target.now.table) n c' (g.S.Store.content c.fill_next.new.store) c.in_ok-low-2.low)) (one_full c.loop-full.full)
       (follows_more c.args.target.now (first_key c.args.target.now.table) (256 * c.loop-full.full) 256 (g.S.Store.content c.args.store.now) _ (g.S.Store.content c.fill_next.new.store) c.loop-full.low c.in_ok-low-2.low c.loop-full.invariant.space c.in_ok-low-2.ensures.next c.loop-full.invariant.follows c.in_ok-low-2.ensures.follows);
   space = c.in_ok-low-2.ensures.next;
-  each = omega (arith, c.in_ok-low-2.ensures.each);
-  entries = omega (arith, c.in_ok-low-2.ensures.each_entry);
-  untold = λ none. c.fill_next.ensures.untold (c.loop-full.invariant.untold none);
-  later = omega (arith, c.fill_next.ensures.cause.later);
+  each = omega (arith, c.in_ok-low-2.ensures.takes.takes.ops_are);
+  entries = omega (arith, c.in_ok-low-2.ensures.takes.takes.entries_are);
+  untold = λ none. c.fill_next.ensures.over.changes.untold (c.loop-full.invariant.untold none);
+  later = omega (arith, c.fill_next.ensures.over.changes.cause.later);
 }
 
 pub returns-in_err-fill_next-clause-stopped : goal.returns-in_err-fill_next-clause-stopped
