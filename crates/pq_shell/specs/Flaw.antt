@@ -1,5 +1,5 @@
 -- Runs over a content whose intent or catalog is flawed.
-use Rattle.std.specs.Prelude.{◌≡◌, ℕ, List, Option, Some, Result, Ok, Err}
+use Rattle.std.specs.Prelude.{◌≡◌, ℕ, List, Option, Some, Result, Ok, Err, IfSome}
 use Rattle.std.specs.Io.KnownBytes.{append_known}
 use Rattle.pq_store.specs.Content.{Content}
 use Rattle.pq_print.specs.Report.{damage_line}
@@ -31,3 +31,12 @@ EndsAtFlaw key status.WriteFault held held_now = Unit {0}
 EndsAtFlaw key status.StoreFault held held_now = Unit {0}
 EndsAtFlaw key status.NoMem held held_now = Unit {0}
 EndsAtFlaw key _ held held_now = ⊥
+
+-- over a told content with a flaw the run stops so, or ends so
+abbrev pub StopsWhereFlawed : {A : Type 0} → Option Content → Result A Stop → Option (List ℕ) → Option (List ℕ) → Type 0
+StopsWhereFlawed told outcome held held_now =
+    IfSome told (λ content. (key : List ℕ) → IsFlaw content key → StopsAtFlaw key outcome held held_now)
+
+abbrev pub EndsWhereFlawed : Option Content → Status → Option (List ℕ) → Option (List ℕ) → Type 0
+EndsWhereFlawed told status held held_now =
+    IfSome told (λ content. (key : List ℕ) → IsFlaw content key → EndsAtFlaw key status held held_now)

@@ -1,6 +1,6 @@
 -- A part of a script that was fed to the splitter, and what was made of its pieces.
-use Rattle.std.specs.Prelude.{◌≡◌, ℕ, ◌+◌, ◌≤◌, ◌||◌, Bool, true, false, Option, List, [], ◌++◌, length}
-use Rattle.std.specs.Io.KnownBytes.{append_known}
+use Rattle.std.specs.Prelude.{◌≡◌, ℕ, ◌+◌, ◌≤◌, ◌||◌, Bool, true, false, Option, List, [], ◌++◌, length, Result, IfOk, OnErr}
+use Rattle.std.specs.Io.KnownBytes.{append_known, prepend_known}
 use Rattle.pq_base.specs.declared.refusal.Refusal.TheVariants.{Unfinished}
 use Rattle.pq_builds.specs.Bounds.{bound}
 use Rattle.pq_fill.specs.declared.words.Form.{Form}
@@ -12,7 +12,9 @@ use Rattle.pq_print.specs.declared.report.Report.{Report}
 use Rattle.pq_reports.specs.Step.{refusal_report}
 use Rattle.pq_shell.specs.Fold.{Moment, ServedItems, StoppedItem}
 use Rattle.pq_shell.specs.Items.{cut_items}
-use Rattle.pq_console.specs.Reading.{TookBytes}
+use Rattle.pq_console.specs.Reading.{TookBytes, CountsBytes, script_limit}
+use Rattle.pq_console.specs.declared.outside.Source.{Ghosts}
+use Rattle.pq_store.specs.Content.{HasRisen}
 use Rattle.pq_console.specs.Stops.{CutsOff}
 use Rattle.pq_console.specs.declared.reading.Ending.{Ending}
 use Rattle.pq_console.specs.declared.reading.Ending.TheVariants.{Whole, Faulted, TooLong}
@@ -80,3 +82,12 @@ pub record StoppedAtRest (stop : Stop) (ending : Ending) (progress : Progress) (
     : Type 0 where
   pub some_rest : has_rest ending progress.splitter ≡ true
   pub cut : CutsOff stop (printed_report (rest_report (progress.tally.count + 1))) held held_now
+
+-- what a run takes of its source: as many bytes as a script may have, and one more where it is too long for one
+pub record TakesScript {I : Type 0} (s : Ghosts I) (before after : I) {A : Type 0} (ending_of : A → Ending)
+    (result : Result A Stop) : Type 0 where
+  pub taken : (bytes : List ℕ) × (s.left before ≡ prepend_known bytes (s.left after)) × (length bytes ≤ script_limit + 1)
+  pub counted : IfOk result (λ x. CountsBytes (ending_of x) (s.count before) (s.count after))
+  pub stopped : OnErr result (s.count after ≤ s.count before + script_limit)
+  pub later : s.faults before ≤ s.faults after
+  pub read_fault : IfOk result (λ x. ending_of x ≡ Faulted → HasRisen (s.faults before) (s.faults after))

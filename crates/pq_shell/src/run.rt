@@ -6,13 +6,13 @@ ghost use Rattle.pq_fill.specs.declared.words.Form.{Form as Declared};
 ghost use Rattle.pq_fill.specs.declared.words.Form.TheVariants as Form;
 ghost use Rattle.pq_schema.specs.Schema.{Schema};
 ghost use Rattle.pq_store.specs.Content.{HasRisen};
-ghost use Rattle.pq_shell.specs.Flaw.{IsFlaw, StopsAtFlaw, EndsAtFlaw};
+ghost use Rattle.pq_shell.specs.Flaw.{StopsWhereFlawed, EndsWhereFlawed};
 ghost use Rattle.pq_shell.specs.Forms.{HasOpening};
 ghost use Rattle.pq_shell.specs.Making.{ReadsSource, moment};
 ghost use Rattle.pq_shell.specs.Openings.{OpensWith, StoppedOpening};
-ghost use Rattle.pq_console.specs.Reading.{CountsBytes, script_limit};
+ghost use Rattle.pq_console.specs.Reading.{script_limit};
 ghost use Rattle.pq_shell.specs.Run.{BrokenRun, Closes, Ends, EndsDamaged, FinishedRun, IsMeant, IsPlain, OpensFor, status_of, run_world};
-ghost use Rattle.pq_shell.specs.Serving.{ConsumedSource, StoppedAmong};
+ghost use Rattle.pq_shell.specs.Serving.{ConsumedSource, StoppedAmong, TakesScript};
 ghost use Rattle.pq_console.specs.Stops.{Causes};
 ghost use Rattle.pq_shell.specs.Answered.{IsAnsweredStop};
 
@@ -55,9 +55,7 @@ fn open<S: Store<L>, O: Sink, L: Ledger>(
     ensures err { IfErr result (λ stop. StoppedOpening stop
         (moment (S.content store.old) (O.held sink.old) meter.old)
         (moment (S.content store.new) (O.held sink.new) meter.new)) }
-    ensures flawed { IfSome (S.content store.old)
-        (λ pairs. (key : List ℕ) → IsFlaw pairs key
-        → StopsAtFlaw key result (O.held sink.old) (O.held sink.new)) }
+    ensures flawed { StopsWhereFlawed (S.content store.old) result (O.held sink.old) (O.held sink.new) }
     ensures causes { Causes (S.faults store.old) (S.faults store.new) (O.faults sink.old) (O.faults sink.new) result }
     ensures answered { IfErr result (IsAnsweredStop S.answers) }
 {
@@ -92,9 +90,8 @@ fn begin<S: Store<L>, O: Sink, L: Ledger>(
         × StoppedOpening stop (moment (S.content store.old) (O.held sink.old) meter.old)
         (moment (S.content store.new) (O.held sink.new) meter.new)) }
     ensures unmoved { form ≡ Form.Check → (store.new ≡ store.old) × (meter.new ≡ meter.old) }
-    ensures flawed { HasOpening form → IfSome (S.content store.old)
-        (λ pairs. (key : List ℕ) → IsFlaw pairs key
-        → StopsAtFlaw key result (O.held sink.old) (O.held sink.new)) }
+    ensures flawed { HasOpening form → StopsWhereFlawed (S.content store.old) result
+        (O.held sink.old) (O.held sink.new) }
     ensures causes { Causes (S.faults store.old) (S.faults store.new) (O.faults sink.old) (O.faults sink.new) result }
     ensures answered { IfErr result (IsAnsweredStop S.answers) }
 {
@@ -129,13 +126,7 @@ fn run_source<S: Store<L>, I: Source, O: Sink, L: Ledger>(
         (moment (S.content store.new) (O.held sink.new) meter.new) progress.old) }
     ensures unmoved { form ≡ Form.Check → (store.new ≡ store.old) × (meter.new ≡ meter.old) }
     ensures causes { Causes (S.faults store.old) (S.faults store.new) (O.faults sink.old) (O.faults sink.new) result }
-    ensures taken { (taken : List ℕ) × (I.left source.old ≡ prepend_known taken (I.left source.new))
-        × (length taken ≤ script_limit + 1) }
-    ensures counted { IfOk result (λ ending. CountsBytes ending (I.count source.old) (I.count source.new)) }
-    ensures stopped { OnErr result (I.count source.new ≤ I.count source.old + script_limit) }
-    ensures later { I.faults source.old ≤ I.faults source.new }
-    ensures read_fault { IfOk result (λ ending. ending ≡ Ending.Faulted
-        → HasRisen (I.faults source.old) (I.faults source.new)) }
+    ensures takes { TakesScript I.Source source.old source.new (λ ending. ending) result }
 {
     let mut session = session;
     let mut room = [0u8; ROOM];
@@ -180,18 +171,11 @@ fn run_script<S: Store<L>, I: Source, O: Sink, L: Ledger>(
     ensures err { IfErr result (λ stop. BrokenRun S.answers form stop
         (run_world (I.left source.old) (S.content store.old) (O.held sink.old) meter.old)
         (run_world (I.left source.new) (S.content store.new) (O.held sink.new) meter.new)) }
-    ensures flawed { HasOpening form → IfSome (S.content store.old)
-        (λ pairs. (key : List ℕ) → IsFlaw pairs key
-        → StopsAtFlaw key result (O.held sink.old) (O.held sink.new)) }
+    ensures flawed { HasOpening form → StopsWhereFlawed (S.content store.old) result
+        (O.held sink.old) (O.held sink.new) }
     ensures unmoved { form ≡ Form.Check → (store.new ≡ store.old) × (meter.new ≡ meter.old) }
     ensures causes { Causes (S.faults store.old) (S.faults store.new) (O.faults sink.old) (O.faults sink.new) result }
-    ensures taken { (taken : List ℕ) × (I.left source.old ≡ prepend_known taken (I.left source.new))
-        × (length taken ≤ script_limit + 1) }
-    ensures counted { IfOk result (λ ended. CountsBytes ended.ending (I.count source.old) (I.count source.new)) }
-    ensures stopped { OnErr result (I.count source.new ≤ I.count source.old + script_limit) }
-    ensures later { I.faults source.old ≤ I.faults source.new }
-    ensures read_fault { IfOk result (λ ended. ended.ending ≡ Ending.Faulted
-        → HasRisen (I.faults source.old) (I.faults source.new)) }
+    ensures takes { TakesScript I.Source source.old source.new (λ ended. ended.ending) result }
 {
     let begun = begin(alloc, form, store, meter, sink)?;
     let mut progress = Progress::new(alloc);
@@ -224,9 +208,7 @@ fn run_fill<S: Store<L>, O: Sink, L: Ledger>(
     ensures err { IfErr result (λ stop. (left : Option (List ℕ)) → BrokenRun S.answers (Form.Fill n) stop
         (run_world left (S.content store.old) (O.held sink.old) meter.old)
         (run_world left (S.content store.new) (O.held sink.new) meter.new)) }
-    ensures flawed { IfSome (S.content store.old)
-        (λ pairs. (key : List ℕ) → IsFlaw pairs key
-        → StopsAtFlaw key result (O.held sink.old) (O.held sink.new)) }
+    ensures flawed { StopsWhereFlawed (S.content store.old) result (O.held sink.old) (O.held sink.new) }
     ensures causes { Causes (S.faults store.old) (S.faults store.new) (O.faults sink.old) (O.faults sink.new) result }
 {
     let begun = begin(alloc, Form::Fill(n), store, meter, sink)?;
@@ -254,18 +236,12 @@ fn run_form<S: Store<L>, I: Source, O: Sink, L: Ledger>(
     ensures err { IfErr result (λ stop. BrokenRun S.answers form stop
         (run_world (I.left source.old) (S.content store.old) (O.held sink.old) meter.old)
         (run_world (I.left source.new) (S.content store.new) (O.held sink.new) meter.new)) }
-    ensures flawed { HasOpening form → IfSome (S.content store.old)
-        (λ pairs. (key : List ℕ) → IsFlaw pairs key
-        → StopsAtFlaw key result (O.held sink.old) (O.held sink.new)) }
+    ensures flawed { HasOpening form → StopsWhereFlawed (S.content store.old) result
+        (O.held sink.old) (O.held sink.new) }
     ensures unmoved { form ≡ Form.Check → (store.new ≡ store.old) × (meter.new ≡ meter.old) }
     ensures unread { (n : ℕ) → form ≡ Form.Fill n → source.new ≡ source.old }
     ensures causes { Causes (S.faults store.old) (S.faults store.new) (O.faults sink.old) (O.faults sink.new) result }
-    ensures taken { (taken : List ℕ) × (I.left source.old ≡ prepend_known taken (I.left source.new))
-        × (length taken ≤ script_limit + 1) }
-    ensures counted { IfOk result (λ ended. CountsBytes ended.ending (I.count source.old) (I.count source.new)) }
-    ensures stopped { OnErr result (I.count source.new ≤ I.count source.old + script_limit) }
-    ensures read_fault { IfOk result (λ ended. ended.ending ≡ Ending.Faulted
-        → HasRisen (I.faults source.old) (I.faults source.new)) }
+    ensures takes { TakesScript I.Source source.old source.new (λ ended. ended.ending) result }
 {
     match form {
         Form::Run | Form::Check => run_script(alloc, form, source, store, meter, sink),
@@ -331,9 +307,8 @@ fn run<S: Store<L>, I: Source, O: Sink, L: Ledger>(
     ensures ends { Ends S.answers form result
         (run_world (I.left source.old) (S.content store.old) (O.held sink.old) meter.old)
         (run_world (I.left source.new) (S.content store.new) (O.held sink.new) meter.new) }
-    ensures flawed { HasOpening form → IfSome (S.content store.old)
-        (λ pairs. (key : List ℕ) → IsFlaw pairs key
-        → EndsAtFlaw key result (O.held sink.old) (O.held sink.new)) }
+    ensures flawed { HasOpening form → EndsWhereFlawed (S.content store.old) result
+        (O.held sink.old) (O.held sink.new) }
     ensures unmoved { form ≡ Form.Check → (store.new ≡ store.old) × (meter.new ≡ meter.old) }
     ensures unread { (n : ℕ) → form ≡ Form.Fill n → source.new ≡ source.old }
     ensures read_fault { result ≡ Status.ReadFault → HasRisen (I.faults source.old) (I.faults source.new) }
@@ -369,8 +344,8 @@ pub fn run_piql<S: Store<L>, I: Source, O: Sink, L: Ledger>(
     // Where the intent or the catalog of a told content is flawed, the line of the first flaw is all that
     // is written; or a call fails, or there is no memory.
     ensures flawed { (form : Declared) → IsForm form words.now → HasOpening form
-        → IfSome (S.content store.old) (λ pairs. (key : List ℕ) → IsFlaw pairs key
-        → EndsAtFlaw key result (O.held sink.old) (O.held sink.new)) }
+        → EndsWhereFlawed (S.content store.old) result
+        (O.held sink.old) (O.held sink.new) }
     ensures usage { result ≡ Status.Usage ↔ ((form : Declared) → ¬ IsForm form words.now) }
     ensures untouched { result ≡ Status.Usage
         → (source.new ≡ source.old) × (store.new ≡ store.old) × (sink.new ≡ sink.old)

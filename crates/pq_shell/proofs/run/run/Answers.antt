@@ -10,7 +10,7 @@ pub returns-clause-flawed : goal.returns-clause-flawed
 returns-clause-flawed g c = λ some. ends_at_flaw _ c.run_form-outcome.result _ _ _ _ (c.run_form-outcome.ensures.flawed some) c.close.ensures.closes
 
 pub returns-clause-reads : goal.returns-clause-reads
-returns-clause-reads g c = (counted_run c.run_form-outcome.result _ _ _ _ _ c.run_form-outcome.ensures.counted c.run_form-outcome.ensures.stopped c.close.ensures.closes).reads
+returns-clause-reads g c = (counted_run c.run_form-outcome.result _ _ _ _ _ c.run_form-outcome.ensures.takes.counted c.run_form-outcome.ensures.takes.stopped c.close.ensures.closes).reads
 
 pub returns-clause-too_long : goal.returns-clause-too_long
-returns-clause-too_long g c = (counted_run c.run_form-outcome.result _ _ _ _ _ c.run_form-outcome.ensures.counted c.run_form-outcome.ensures.stopped c.close.ensures.closes).too_long
+returns-clause-too_long g c = (counted_run c.run_form-outcome.result _ _ _ _ _ c.run_form-outcome.ensures.takes.counted c.run_form-outcome.ensures.takes.stopped c.close.ensures.closes).too_long

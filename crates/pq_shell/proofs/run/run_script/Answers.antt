@@ -1,3 +1,4 @@
+use Rattle.std.proofs.Common.{rules}
 use Rattle.std.proofs.lemmas.Result.{err_from_is_err_and, IfOk-weaker, IfErr-weaker}
 use Rattle.pq_shell.proofs.Counting.{counted_rest, stopped_rest}
 use Rattle.pq_shell.proofs.Ending.{Finished-of, Stopped-among, Stopped-at_rest, Stopped-opening}
@@ -36,8 +37,11 @@ returns-in_err-ending-clause-flawed g c = λ some. never_at_flaw _ _ (c.in_ok-be
 pub returns-clause-flawed : goal.returns-clause-flawed
 returns-clause-flawed g c = λ some. never_at_flaw _ _ (c.in_ok-begun.ensures.flawed some)
 
-pub returns-clause-counted : goal.returns-clause-counted
-returns-clause-counted g c = counted_rest c.finish.result _ _ _ _ _ _ c.in_ok-ending.ensures.counted c.finish.ensures.ok
-
-pub returns-clause-stopped : goal.returns-clause-stopped
-returns-clause-stopped g c = stopped_rest c.finish.result _ _ _ _ _ _ c.in_ok-ending.ensures.counted c.finish.ensures.err
+pub returns-clause-takes : goal.returns-clause-takes
+returns-clause-takes g c = record {
+  taken = c.in_ok-ending.ensures.takes.taken;
+  counted = counted_rest c.finish.result _ _ _ _ _ _ c.in_ok-ending.ensures.takes.counted c.finish.ensures.ok;
+  stopped = stopped_rest c.finish.result _ _ _ _ _ _ c.in_ok-ending.ensures.takes.counted c.finish.ensures.err;
+  later = c.in_ok-ending.ensures.takes.later;
+  read_fault = search rules;
+}

@@ -27,12 +27,18 @@ returns-in_err-session-clause-err g c =
     let next = c.in-Ok.ensures.taken ∙ ap (λ b. prepend_known b (g.I.Source.left c.read.new.self)) (sym (room_front n c.read.new.room behind within)) in
     rw (p.1, p.2) (SoFar-stopped n (take n (c.read.new.room ++ behind)) c.loop-taken.invariant.so_far next (room_long n c.read.new.room behind within) small short c.in_err-session.ensures.err)
 
-pub returns-in_err-session-clause-taken : goal.returns-in_err-session-clause-taken
-returns-in_err-session-clause-taken g c =
+pub returns-in_err-session-clause-takes : goal.returns-in_err-session-clause-takes
+returns-in_err-session-clause-takes g c =
     let n = c.in-Ok.n in
     let within : n ≤ length c.read.new.room = omega (arith, c.read.auto.room, c.in-Ok.ensures.within) in
     let short : c.loop-taken.taken + length (take n c.read.new.room) ≤ script_limit + 1 = omega (arith, c.in-Ok.ensures.within, length-take c.min-want.result c.loop-taken.room, c.min-want.ensures, length-take-le n c.read.new.room within) in
-    SoFar-taken _ (take n c.read.new.room) (script_limit + 1) c.loop-taken.invariant.so_far c.in-Ok.ensures.taken short
+    record {
+      taken = SoFar-taken _ (take n c.read.new.room) (script_limit + 1) c.loop-taken.invariant.so_far c.in-Ok.ensures.taken short;
+      counted = search rules;
+      stopped = search rules;
+      later = search rules;
+      read_fault = search rules;
+    }
 
 pub loop-taken-preserved : goal.loop-taken-preserved
 loop-taken-preserved g c =
@@ -53,7 +59,13 @@ loop-taken-preserved g c =
 pub returns-clause-ok : goal.returns-clause-ok
 returns-clause-ok g c = (_, SoFar-past c.read_past_limit.result c.loop-taken.invariant.so_far (search rules) c.read_past_limit.ensures.took)
 
-pub returns-clause-taken : goal.returns-clause-taken
-returns-clause-taken g c =
+pub returns-clause-takes : goal.returns-clause-takes
+returns-clause-takes g c =
     let last = c.read_past_limit.ensures.taken in
-    SoFar-taken _ last.0 (script_limit + 1) c.loop-taken.invariant.so_far last.1 (omega (arith, last.2, c.loop-taken.invariant.within))
+    record {
+      taken = SoFar-taken _ last.0 (script_limit + 1) c.loop-taken.invariant.so_far last.1 (omega (arith, last.2, c.loop-taken.invariant.within));
+      counted = search rules;
+      stopped = search rules;
+      later = search rules;
+      read_fault = search rules;
+    }
