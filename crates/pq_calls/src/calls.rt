@@ -2,10 +2,9 @@
 ghost use Rattle.std.specs.Prelude.{◌≡◌, ◌≤◌, ◌<◌, ◌+◌, ◌*◌, position, length, map, take, min, is_some, Some, IfOk, IfErr, IfSome};
 ghost use Rattle.std.specs.List.{AllByRecursion, AllZip, sum_by};
 ghost use Rattle.std.specs.FinMap.{get as value_at};
-ghost use Rattle.pq_store.specs.Breaks.{IsAnswered};
 ghost use Rattle.pq_store.specs.Content.{entry, pairs_within, AreAnswers, IsPartOf};
 ghost use Rattle.pq_store.specs.Rounds.{IsValueOf, IsValueAnswered, ArePairsOf, IsPartAsked, test_entries, is_held};
-ghost use Rattle.pq_calls.specs.Calls.{Uses, Fails};
+ghost use Rattle.pq_calls.specs.Calls.{Asks};
 ghost use Rattle.pq_calls.specs.World.{Affords, no_damage};
 
 use pq_base::{Bytes, List};
@@ -25,10 +24,7 @@ impl<'a, S: Store<L>, L: Ledger> Calls<'a, S, L> {
     /// The value of the key: one operation, and an entry where there is one.
     pub fn get(&mut self, alloc: Global, key: &[u8]) -> Result<Option<Bytes>, Broke>
         requires share { Affords self.old.allowance.now 1 1 }
-        ensures uses { Uses S.content S.faults self.old self.new 1 1 }
-        ensures round { S.rounds self.new.store.now ≤ S.rounds self.old.store.now + 1 }
-        ensures cause { IfErr result (Fails no_damage S.content S.faults self.old self.new) }
-        ensures answered { IfErr result (IsAnswered S.answers) }
+        ensures asks { Asks S.Store no_damage self.old self.new 1 1 1 result }
         ensures answer { IfOk result (λ found. IfSome (S.content self.old.store.now)
             (λ c. found ≡ value_at c key.now)) }
         ensures answers { IfOk result (λ found. S.answers key.now found) }
@@ -49,10 +45,7 @@ impl<'a, S: Store<L>, L: Ledger> Calls<'a, S, L> {
     ) -> Result<List<Pair>, Broke>
         requires limit { 1 ≤ limit }
         requires share { Affords self.old.allowance.now 1 limit }
-        ensures uses { Uses S.content S.faults self.old self.new 1 limit }
-        ensures round { S.rounds self.new.store.now ≤ S.rounds self.old.store.now + 1 }
-        ensures cause { IfErr result (Fails no_damage S.content S.faults self.old self.new) }
-        ensures answered { IfErr result (IsAnswered S.answers) }
+        ensures asks { Asks S.Store no_damage self.old self.new 1 limit 1 result }
         ensures answer { IfOk result (λ found. IfSome (S.content self.old.store.now) (λ c.
             map entry found ≡ take limit (pairs_within c low.now high.now))) }
         ensures part { IfOk result (λ found. IsPartOf low.now high.now limit (map entry found)) }
@@ -68,10 +61,7 @@ impl<'a, S: Store<L>, L: Ledger> Calls<'a, S, L> {
     /// entries.
     pub fn count(&mut self, alloc: Global, low: &[u8], high: &[u8], cap: u32) -> Result<u32, Broke>
         requires share { Affords self.old.allowance.now 1 cap }
-        ensures uses { Uses S.content S.faults self.old self.new 1 cap }
-        ensures round { S.rounds self.new.store.now ≤ S.rounds self.old.store.now + 1 }
-        ensures cause { IfErr result (Fails no_damage S.content S.faults self.old self.new) }
-        ensures answered { IfErr result (IsAnswered S.answers) }
+        ensures asks { Asks S.Store no_damage self.old self.new 1 cap 1 result }
         ensures answer { IfOk result (λ n. IfSome (S.content self.old.store.now) (λ c.
             n ≡ min cap (length (pairs_within c low.now high.now)))) }
         ensures few { IfOk result (λ n. n ≤ cap) }
@@ -88,10 +78,7 @@ impl<'a, S: Store<L>, L: Ledger> Calls<'a, S, L> {
         keys: &[Option<Bytes>],
     ) -> Result<List<Option<Bytes>>, Broke>
         requires share { Affords self.old.allowance.now (length keys.now) (length keys.now) }
-        ensures uses { Uses S.content S.faults self.old self.new (length keys.now) (length keys.now) }
-        ensures round { S.rounds self.new.store.now ≤ S.rounds self.old.store.now + 1 }
-        ensures cause { IfErr result (Fails no_damage S.content S.faults self.old self.new) }
-        ensures answered { IfErr result (IsAnswered S.answers) }
+        ensures asks { Asks S.Store no_damage self.old self.new (length keys.now) (length keys.now) 1 result }
         ensures long { IfOk result (λ found. length found ≡ length keys.now) }
         ensures answer { IfOk result (AllZip (IsValueOf (S.content self.old.store.now)) keys.now) }
         ensures answers { IfOk result (AllZip (IsValueAnswered S.answers) keys.now) }
@@ -109,10 +96,7 @@ impl<'a, S: Store<L>, L: Ledger> Calls<'a, S, L> {
     ) -> Result<List<List<Pair>>, Broke>
         requires limit { 1 ≤ limit }
         requires share { Affords self.old.allowance.now (length asks.now) (length asks.now * limit) }
-        ensures uses { Uses S.content S.faults self.old self.new (length asks.now) (length asks.now * limit) }
-        ensures round { S.rounds self.new.store.now ≤ S.rounds self.old.store.now + 1 }
-        ensures cause { IfErr result (Fails no_damage S.content S.faults self.old self.new) }
-        ensures answered { IfErr result (IsAnswered S.answers) }
+        ensures asks { Asks S.Store no_damage self.old self.new (length asks.now) (length asks.now * limit) 1 result }
         ensures long { IfOk result (λ found. length found ≡ length asks.now) }
         ensures answer { IfOk result (AllZip (ArePairsOf (S.content self.old.store.now) limit) asks.now) }
         ensures parts { IfOk result (AllZip (IsPartAsked limit) asks.now) }
@@ -127,10 +111,8 @@ impl<'a, S: Store<L>, L: Ledger> Calls<'a, S, L> {
     /// The place of the first test that holds. Nothing is spent for those behind it.
     pub fn first_held(&mut self, alloc: Global, tests: &[Test]) -> Result<Option<usize>, Broke>
         requires share { Affords self.old.allowance.now (length tests.now) (sum_by test_entries tests.now) }
-        ensures uses { Uses S.content S.faults self.old self.new (length tests.now) (sum_by test_entries tests.now) }
-        ensures round { S.rounds self.new.store.now ≤ S.rounds self.old.store.now + 1 }
-        ensures cause { IfErr result (Fails no_damage S.content S.faults self.old self.new) }
-        ensures answered { IfErr result (IsAnswered S.answers) }
+        ensures asks { Asks S.Store no_damage self.old self.new
+            (length tests.now) (sum_by test_entries tests.now) 1 result }
         ensures answer { IfOk result (λ at. IfSome (S.content self.old.store.now)
             (λ c. at ≡ position (is_held c) tests.now)) }
         ensures within { IfOk result (λ at. IfSome at (λ i. i < length tests.now)) }
@@ -144,10 +126,7 @@ impl<'a, S: Store<L>, L: Ledger> Calls<'a, S, L> {
     /// Whether the store has a value at this key.
     pub fn has_value(&mut self, alloc: Global, at: &[u8]) -> Result<bool, Broke>
         requires share { Affords self.old.allowance.now 1 1 }
-        ensures uses { Uses S.content S.faults self.old self.new 1 1 }
-        ensures round { S.rounds self.new.store.now ≤ S.rounds self.old.store.now + 1 }
-        ensures cause { IfErr result (Fails no_damage S.content S.faults self.old self.new) }
-        ensures answered { IfErr result (IsAnswered S.answers) }
+        ensures asks { Asks S.Store no_damage self.old self.new 1 1 1 result }
         ensures answer { IfOk result (λ there. IfSome (S.content self.old.store.now) (λ c.
             there ≡ is_some (value_at c at.now))) }
     {

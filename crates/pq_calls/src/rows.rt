@@ -5,8 +5,7 @@ ghost use Rattle.pq_base.specs.Shapes.{row_shape};
 ghost use Rattle.pq_base.specs.Values.{AllFit};
 ghost use Rattle.pq_key_code.specs.KeyCode.{row_key};
 ghost use Rattle.pq_schema.specs.Rows.{types_of, shape_of};
-ghost use Rattle.pq_store.specs.Breaks.{IsAnswered};
-ghost use Rattle.pq_calls.specs.Calls.{Uses, Fails};
+ghost use Rattle.pq_calls.specs.Calls.{Asks};
 ghost use Rattle.pq_row_code.specs.StoredRow.{code_as};
 ghost use Rattle.pq_calls.specs.Evidence.{IsRead, IsNoRowAt, IsUnreadRow};
 ghost use Rattle.pq_calls.specs.World.{Affords};
@@ -69,13 +68,9 @@ impl<'a, S: Store<L>, L: Ledger> Calls<'a, S, L> {
         fillers: &List<Option<Value>>,
     ) -> Result<Option<StoredRow>, Broke>
         requires share { Affords self.old.allowance.now 1 1 }
-        ensures uses { Uses S.content S.faults self.old self.new 1 1 }
-        ensures round { S.rounds self.new.store.now ≤ S.rounds self.old.store.now + 1 }
-        ensures cause { IfErr result (Fails (IsNoRowAt (row_shape types.now fillers.now) at) S.content S.faults
-            self.old self.new) }
+        ensures asks { Asks S.Store (IsNoRowAt (row_shape types.now fillers.now) at) self.old self.new 1 1 1 result }
         ensures read { IfOk result (λ found. IfSome (S.content self.old.store.now) (λ c.
             IsRead (row_shape types.now fillers.now) (value_at c at) (option_map (λ stored. stored.row) found))) }
-        ensures answered { IfErr result (IsAnswered S.answers) }
         ensures none { IfOk result (λ found. IfNone found (S.answers at None)) }
         ensures at { IfOk result (λ found. IfSome found (λ stored. stored.at ≡ at)) }
         ensures fits { IfOk result (λ found. IfSome found (λ stored. AllFit types.now stored.row)) }
@@ -97,14 +92,11 @@ impl<'a, S: Store<L>, L: Ledger> Calls<'a, S, L> {
         key: &Row,
     ) -> Result<Option<StoredRow>, Broke>
         requires share { Affords self.old.allowance.now 1 1 }
-        ensures uses { Uses S.content S.faults self.old self.new 1 1 }
-        ensures round { S.rounds self.new.store.now ≤ S.rounds self.old.store.now + 1 }
-        ensures cause { IfErr result (Fails (IsNoRowAt (shape_of table.now) (row_key number key.now)) S.content
-            S.faults self.old self.new) }
+        ensures asks { Asks S.Store (IsNoRowAt (shape_of table.now) (row_key number key.now)) self.old self.new
+            1 1 1 result }
         ensures read { IfOk result (λ found. IfSome (S.content self.old.store.now) (λ c.
             IsRead (shape_of table.now) (value_at c (row_key number key.now)) (option_map
             (λ stored. stored.row) found))) }
-        ensures answered { IfErr result (IsAnswered S.answers) }
         ensures none { IfOk result (λ found. IfNone found (S.answers (row_key number key.now) None)) }
         ensures at { IfOk result (λ found. IfSome found (λ stored. stored.at ≡ row_key number key.now)) }
         ensures fits { IfOk result (λ found. IfSome found (λ stored. AllFit (types_of table.now) stored.row)) }

@@ -8,8 +8,7 @@ ghost use Rattle.pq_schema.specs.Rows.{types_of, shape_of};
 ghost use Rattle.pq_schema.specs.Sequences.{IsAccess, index_sequence, index_numbered};
 ghost use Rattle.pq_schema.specs.Sound.{IsTable};
 ghost use Rattle.pq_schema.specs.Tables.{table_at};
-ghost use Rattle.pq_store.specs.Breaks.{IsAnswered};
-ghost use Rattle.pq_calls.specs.Calls.{Uses, Fails};
+ghost use Rattle.pq_calls.specs.Calls.{Asks};
 ghost use Rattle.pq_calls.specs.Keys.{sequence_types};
 ghost use Rattle.pq_calls.specs.World.{Affords, where_told};
 ghost use Rattle.pq_content.specs.Pairs.{Pair, HoldsRows};
@@ -42,11 +41,7 @@ pub fn named_row<S: Store<L>, L: Ledger>(
     requires there { IsEntryThere number (table_at catalog.now.tables number) index
         (S.content calls.old.store.now) values.now }
     requires share { Affords calls.old.allowance.now 1 1 }
-    ensures uses { Uses S.content S.faults calls.old calls.new 1 1 }
-    ensures cause { IfErr result (Fails (where_told (ShowsRead catalog.now.tables)) S.content S.faults calls.old
-        calls.new) }
-    ensures rounds { S.rounds calls.new.store.now ≤ S.rounds calls.old.store.now + 1 }
-    ensures answered { IfErr result (IsAnswered S.answers) }
+    ensures asks { Asks S.Store (where_told (ShowsRead catalog.now.tables)) calls.old calls.new 1 1 1 result }
     ensures fits { IfOk result (AllFit (types_of (table_at catalog.now.tables number))) }
     // Over any content that is told, the row that stands at the key that the entry names.
     ensures code { IfOk result (λ found. IfSome (S.content calls.old.store.now)
@@ -155,11 +150,8 @@ pub fn named_rows<S: Store<L>, L: Ledger>(
     requires there { AllByRecursion (IsEntryThere number (table_at catalog.now.tables number) index
         (S.content calls.old.store.now)) found.now }
     requires share { Affords calls.old.allowance.now (length found.now) (length found.now) }
-    ensures uses { Uses S.content S.faults calls.old calls.new (length found.now) (length found.now) }
-    ensures cause { IfErr result (Fails (where_told (ShowsRead catalog.now.tables)) S.content S.faults calls.old
-        calls.new) }
-    ensures rounds { S.rounds calls.new.store.now ≤ S.rounds calls.old.store.now + 1 }
-    ensures answered { IfErr result (IsAnswered S.answers) }
+    ensures asks { Asks S.Store (where_told (ShowsRead catalog.now.tables)) calls.old calls.new
+        (length found.now) (length found.now) 1 result }
     ensures long { IfOk result (λ rows. length rows ≡ length found.now) }
     ensures fit { IfOk result (AllByRecursion (AllFit (types_of (table_at catalog.now.tables number)))) }
     ensures codes { IfOk result (λ named. IfSome (S.content calls.old.store.now)

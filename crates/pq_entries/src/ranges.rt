@@ -7,9 +7,8 @@ ghost use Rattle.pq_schema.specs.Keys.{dirs_of};
 ghost use Rattle.pq_schema.specs.Sequences.{IsAccess, sequence_of};
 ghost use Rattle.pq_schema.specs.Sound.{IsTable};
 ghost use Rattle.pq_schema.specs.Tables.{table_at};
-ghost use Rattle.pq_store.specs.Breaks.{IsAnswered};
 ghost use Rattle.pq_store.specs.Content.{entry};
-ghost use Rattle.pq_calls.specs.Calls.{Uses, Fails};
+ghost use Rattle.pq_calls.specs.Calls.{Asks};
 ghost use Rattle.pq_calls.specs.Keys.{sequence_types};
 ghost use Rattle.pq_calls.specs.World.{Affords, where_told};
 ghost use Rattle.pq_nodes.specs.Operators.{ShowsRead};
@@ -76,11 +75,7 @@ pub fn range_rows<S: Store<L>, L: Ledger>(
     requires ends { AreEnds number Access.Primary low.now high.now }
     requires limit { 1 ≤ limit }
     requires share { Affords calls.old.allowance.now 1 limit }
-    ensures uses { Uses S.content S.faults calls.old calls.new 1 limit }
-    ensures cause { IfErr result (Fails (where_told (ShowsRead catalog.now.tables)) S.content S.faults calls.old
-        calls.new) }
-    ensures rounds { S.rounds calls.new.store.now ≤ S.rounds calls.old.store.now + 1 }
-    ensures answered { IfErr result (IsAnswered S.answers) }
+    ensures asks { Asks S.Store (where_told (ShowsRead catalog.now.tables)) calls.old calls.new 1 limit 1 result }
     ensures few { IfOk result (λ rows. length rows ≤ limit) }
     ensures fit { IfOk result (AllByRecursion (AllFit (types_of (table_at catalog.now.tables number)))) }
     // Over any content that is told, no pair is passed over.
@@ -205,11 +200,7 @@ pub fn range_values<S: Store<L>, L: Ledger>(
     requires ends { AreEnds number access low.now high.now }
     requires limit { 1 ≤ limit }
     requires share { Affords calls.old.allowance.now 1 limit }
-    ensures uses { Uses S.content S.faults calls.old calls.new 1 limit }
-    ensures cause { IfErr result (Fails (where_told (ShowsRead catalog.now.tables)) S.content S.faults calls.old
-        calls.new) }
-    ensures rounds { S.rounds calls.new.store.now ≤ S.rounds calls.old.store.now + 1 }
-    ensures answered { IfErr result (IsAnswered S.answers) }
+    ensures asks { Asks S.Store (where_told (ShowsRead catalog.now.tables)) calls.old calls.new 1 limit 1 result }
     ensures few { IfOk result (λ found. length found ≤ limit) }
     ensures fit { IfOk result (AllByRecursion (AllFit (sequence_types (table_at catalog.now.tables number) access))) }
     ensures there { IfOk result (AllByRecursion

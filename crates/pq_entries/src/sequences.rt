@@ -9,8 +9,7 @@ ghost use Rattle.pq_schema.specs.Rows.{types_of};
 ghost use Rattle.pq_schema.specs.Sequences.{index_sequence, index_numbered};
 ghost use Rattle.pq_schema.specs.Tables.{table_at};
 ghost use Rattle.pq_store.specs.Content.{pairs_within};
-ghost use Rattle.pq_store.specs.Breaks.{IsAnswered};
-ghost use Rattle.pq_calls.specs.Calls.{Uses, Fails};
+ghost use Rattle.pq_calls.specs.Calls.{Asks};
 ghost use Rattle.pq_calls.specs.Keys.{sequence_types};
 ghost use Rattle.pq_calls.specs.World.{Affords, where_told};
 ghost use Rattle.pq_content.specs.Pairs.{Pair, HoldsRows, content_pairs};
@@ -46,12 +45,9 @@ pub fn sequence_rows<S: Store<L>, L: Ledger>(
     requires limit { 1 ≤ limit }
     requires share { Affords calls.old.allowance.now (limit_cost (is_primary_access access) limit).ops
         (limit_cost (is_primary_access access) limit).entries }
-    ensures uses { Uses S.content S.faults calls.old calls.new (limit_cost (is_primary_access access) limit).ops
-        (limit_cost (is_primary_access access) limit).entries }
-    ensures cause { IfErr result (Fails (where_told (ShowsRead catalog.now.tables)) S.content S.faults calls.old
-        calls.new) }
-    ensures rounds { S.rounds calls.new.store.now ≤ S.rounds calls.old.store.now + access_rounds access }
-    ensures answered { IfErr result (IsAnswered S.answers) }
+    ensures asks { Asks S.Store (where_told (ShowsRead catalog.now.tables)) calls.old calls.new
+        (limit_cost (is_primary_access access) limit).ops (limit_cost (is_primary_access access) limit).entries
+        (access_rounds access) result }
     ensures few { IfOk result (λ found. length found ≤ limit) }
     ensures fit { IfOk result (AllByRecursion (AllFit (types_of (table_at catalog.now.tables number)))) }
     // Over any content that is told, no pair is passed over.

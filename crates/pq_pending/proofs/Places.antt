@@ -8,7 +8,7 @@ use Rattle.pq_row_code.specs.declared.changes.Change.{Change as Coded}
 use Rattle.pq_content.specs.Standing.{change_of}
 use Rattle.pq_store.specs.Content.{key_cmp}
 use Rattle.pq_pending.specs.Pending.{with_change, changed_value}
-use Rattle.pq_pending.specs.Placed.{HavePlaces, is_of as names}
+use Rattle.pq_pending.specs.Placed.{is_of as names}
 
 module _ (key : List ℕ) where
   abbrev is_of : Coded → Bool

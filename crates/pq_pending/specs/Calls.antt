@@ -1,8 +1,10 @@
 -- What a call sees of a store with changes that are not made yet, and what it makes of that.
-use Rattle.std.specs.Prelude.{◌≡◌, ℕ, List, Option}
+use Rattle.std.specs.Prelude.{◌≡◌, ℕ, ◌≤◌, ◌+◌, List, Option, Result, IfErr}
 use Rattle.pq_store.specs.Content.{Content}
 use Rattle.pq_store.specs.declared.damage.Broke.{Broke}
 use Rattle.pq_store.specs.declared.damage.Damage.{Damage}
+use Rattle.pq_store.specs.declared.store.Store.{Ghosts}
+use Rattle.pq_store.specs.Breaks.{IsAnswered}
 use Rattle.pq_calls.specs.World.{World, world, Reads, Explains}
 use Rattle.pq_pending.specs.Pending.{seen_content, seen_answers}
 use Rattle.pq_pending.specs.declared.calls.PendingCalls.{PendingCalls}
@@ -35,3 +37,11 @@ abbrev pub Fails : (Option Content → Damage → Type 0) → {S L : Type 0} →
     → PendingCalls S L → PendingCalls S L → Broke → Type 0
 Fails shows content faults before after error =
     Explains shows (seen_world content faults before) (seen_world content faults after) error
+
+-- what calls ask: at most so much is read, in at most so many rounds, and each error has its cause
+pub record AsksPending {S L : Type 0} (s : Ghosts S L) (shows : Option Content → Damage → Type 0)
+    (before after : PendingCalls S L) (ops entries most_rounds : ℕ) {A : Type 0} (result : Result A Broke) : Type 0 where
+  pub uses : Uses s.content s.faults before after ops entries
+  pub rounds : s.rounds after.store.now ≤ s.rounds before.store.now + most_rounds
+  pub cause : IfErr result (Fails shows s.content s.faults before after)
+  pub answered : IfErr result (IsAnswered (answers_of s.answers before))

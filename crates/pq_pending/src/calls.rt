@@ -5,11 +5,10 @@ ghost use Rattle.pq_base.specs.Shapes.{row_shape};
 ghost use Rattle.pq_base.specs.Values.{AllFit};
 ghost use Rattle.pq_key_code.specs.KeyCode.{row_key};
 ghost use Rattle.pq_schema.specs.Rows.{types_of, shape_of};
-ghost use Rattle.pq_store.specs.Breaks.{IsAnswered};
 ghost use Rattle.pq_store.specs.Content.{entry, pairs_within};
 ghost use Rattle.pq_calls.specs.Evidence.{IsRead, IsNoRowAt};
 ghost use Rattle.pq_calls.specs.World.{Affords, no_damage};
-ghost use Rattle.pq_pending.specs.Calls.{Uses, Fails, seen, answers_of};
+ghost use Rattle.pq_pending.specs.Calls.{AsksPending, seen, answers_of};
 ghost use Rattle.pq_pending.specs.Pending.{removals_within, counted_with};
 
 use crate::pending::Pending;
@@ -54,10 +53,7 @@ impl<'p, 'a, S: Store<L>, L: Ledger> PendingCalls<'p, 'a, S, L> {
     // The value that the store has for the key.
     fn stored(&mut self, alloc: Global, key: &[u8]) -> Result<Option<Bytes>, Broke>
         requires share { Affords self.old.allowance.now 1 1 }
-        ensures uses { Uses S.content S.faults self.old self.new 1 1 }
-        ensures round { S.rounds self.new.store.now ≤ S.rounds self.old.store.now + 1 }
-        ensures cause { IfErr result (Fails no_damage S.content S.faults self.old self.new) }
-        ensures answered { IfErr result (IsAnswered (answers_of S.answers self.old)) }
+        ensures asks { AsksPending S.Store no_damage self.old self.new 1 1 1 result }
         ensures answer { IfOk result (λ found. IfSome (S.content self.old.store.now)
             (λ c. found ≡ value_at c key.now)) }
         ensures answers { IfOk result (λ found. S.answers key.now found) }
@@ -71,10 +67,7 @@ impl<'p, 'a, S: Store<L>, L: Ledger> PendingCalls<'p, 'a, S, L> {
     /// is one.
     pub fn get(&mut self, alloc: Global, key: &[u8]) -> Result<Option<Bytes>, Broke>
         requires share { Affords self.old.allowance.now 1 1 }
-        ensures uses { Uses S.content S.faults self.old self.new 1 1 }
-        ensures round { S.rounds self.new.store.now ≤ S.rounds self.old.store.now + 1 }
-        ensures cause { IfErr result (Fails no_damage S.content S.faults self.old self.new) }
-        ensures answered { IfErr result (IsAnswered (answers_of S.answers self.old)) }
+        ensures asks { AsksPending S.Store no_damage self.old self.new 1 1 1 result }
         ensures answer { IfOk result (λ found. IfSome (seen S.content self.old) (λ c. found ≡ value_at c key.now)) }
         ensures answers { IfOk result (λ found. answers_of S.answers self.old key.now found) }
     {
@@ -94,10 +87,7 @@ impl<'p, 'a, S: Store<L>, L: Ledger> PendingCalls<'p, 'a, S, L> {
         cap: u32,
     ) -> Result<u32, Broke>
         requires share { Affords self.old.allowance.now 1 cap }
-        ensures uses { Uses S.content S.faults self.old self.new 1 cap }
-        ensures round { S.rounds self.new.store.now ≤ S.rounds self.old.store.now + 1 }
-        ensures cause { IfErr result (Fails no_damage S.content S.faults self.old self.new) }
-        ensures answered { IfErr result (IsAnswered (answers_of S.answers self.old)) }
+        ensures asks { AsksPending S.Store no_damage self.old self.new 1 cap 1 result }
         ensures answer { IfOk result (λ n. IfSome (S.content self.old.store.now)
             (λ c. n ≡ min cap (length (pairs_within c low.now high.now)))) }
         ensures few { IfOk result (λ n. n ≤ cap) }
@@ -117,10 +107,7 @@ impl<'p, 'a, S: Store<L>, L: Ledger> PendingCalls<'p, 'a, S, L> {
     ) -> Result<List<Pair>, Broke>
         requires limit { 1 ≤ limit }
         requires share { Affords self.old.allowance.now 1 limit }
-        ensures uses { Uses S.content S.faults self.old self.new 1 limit }
-        ensures round { S.rounds self.new.store.now ≤ S.rounds self.old.store.now + 1 }
-        ensures cause { IfErr result (Fails no_damage S.content S.faults self.old self.new) }
-        ensures answered { IfErr result (IsAnswered (answers_of S.answers self.old)) }
+        ensures asks { AsksPending S.Store no_damage self.old self.new 1 limit 1 result }
         ensures answer { IfOk result (λ found. IfSome (S.content self.old.store.now)
             (λ c. map entry found ≡ take limit (pairs_within c low.now high.now))) }
     {
@@ -136,11 +123,8 @@ impl<'p, 'a, S: Store<L>, L: Ledger> PendingCalls<'p, 'a, S, L> {
         requires few { cap + removals_within low.now high.now self.old.pending.now.changes < 2 ^ 32 }
         requires share { Affords self.old.allowance.now 1
             (cap + removals_within low.now high.now self.old.pending.now.changes) }
-        ensures uses { Uses S.content S.faults self.old self.new 1
-            (cap + removals_within low.now high.now self.old.pending.now.changes) }
-        ensures round { S.rounds self.new.store.now ≤ S.rounds self.old.store.now + 1 }
-        ensures cause { IfErr result (Fails no_damage S.content S.faults self.old self.new) }
-        ensures answered { IfErr result (IsAnswered (answers_of S.answers self.old)) }
+        ensures asks { AsksPending S.Store no_damage self.old self.new
+            1 (cap + removals_within low.now high.now self.old.pending.now.changes) 1 result }
         ensures answer { IfOk result (λ n. IfSome (seen S.content self.old)
             (λ c. n ≡ min cap (length (pairs_within c low.now high.now)))) }
         ensures few { IfOk result (λ n. n ≤ cap) }
@@ -157,10 +141,7 @@ impl<'p, 'a, S: Store<L>, L: Ledger> PendingCalls<'p, 'a, S, L> {
     /// Whether there is a value at this key.
     pub fn has_value(&mut self, alloc: Global, at: &[u8]) -> Result<bool, Broke>
         requires share { Affords self.old.allowance.now 1 1 }
-        ensures uses { Uses S.content S.faults self.old self.new 1 1 }
-        ensures round { S.rounds self.new.store.now ≤ S.rounds self.old.store.now + 1 }
-        ensures cause { IfErr result (Fails no_damage S.content S.faults self.old self.new) }
-        ensures answered { IfErr result (IsAnswered (answers_of S.answers self.old)) }
+        ensures asks { AsksPending S.Store no_damage self.old self.new 1 1 1 result }
         ensures answer { IfOk result (λ there. IfSome (seen S.content self.old) (λ c.
             there ≡ is_some (value_at c at.now))) }
     {
@@ -176,13 +157,10 @@ impl<'p, 'a, S: Store<L>, L: Ledger> PendingCalls<'p, 'a, S, L> {
         fillers: &List<Option<Value>>,
     ) -> Result<Option<StoredRow>, Broke>
         requires share { Affords self.old.allowance.now 1 1 }
-        ensures uses { Uses S.content S.faults self.old self.new 1 1 }
-        ensures round { S.rounds self.new.store.now ≤ S.rounds self.old.store.now + 1 }
-        ensures cause { IfErr result (Fails (IsNoRowAt (row_shape types.now fillers.now) at) S.content S.faults
-            self.old self.new) }
+        ensures asks { AsksPending S.Store (IsNoRowAt (row_shape types.now fillers.now) at) self.old self.new
+            1 1 1 result }
         ensures read { IfOk result (λ found. IfSome (seen S.content self.old) (λ c.
             IsRead (row_shape types.now fillers.now) (value_at c at) (option_map (λ stored. stored.row) found))) }
-        ensures answered { IfErr result (IsAnswered (answers_of S.answers self.old)) }
         ensures none { IfOk result (λ found. IfNone found (answers_of S.answers self.old at None)) }
         ensures at { IfOk result (λ found. IfSome found (λ stored. stored.at ≡ at)) }
         ensures fits { IfOk result (λ found. IfSome found (λ stored. AllFit types.now stored.row)) }
@@ -204,14 +182,11 @@ impl<'p, 'a, S: Store<L>, L: Ledger> PendingCalls<'p, 'a, S, L> {
         key: &Row,
     ) -> Result<Option<StoredRow>, Broke>
         requires share { Affords self.old.allowance.now 1 1 }
-        ensures uses { Uses S.content S.faults self.old self.new 1 1 }
-        ensures round { S.rounds self.new.store.now ≤ S.rounds self.old.store.now + 1 }
-        ensures cause { IfErr result (Fails (IsNoRowAt (shape_of table.now) (row_key number key.now)) S.content
-            S.faults self.old self.new) }
+        ensures asks { AsksPending S.Store (IsNoRowAt (shape_of table.now) (row_key number key.now)) self.old self.new
+            1 1 1 result }
         ensures read { IfOk result (λ found. IfSome (seen S.content self.old) (λ c.
             IsRead (shape_of table.now) (value_at c (row_key number key.now)) (option_map
             (λ stored. stored.row) found))) }
-        ensures answered { IfErr result (IsAnswered (answers_of S.answers self.old)) }
         ensures none { IfOk result (λ found. IfNone found
             (answers_of S.answers self.old (row_key number key.now) None)) }
         ensures at { IfOk result (λ found. IfSome found (λ stored. stored.at ≡ row_key number key.now)) }

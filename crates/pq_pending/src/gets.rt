@@ -1,10 +1,9 @@
 //! Values that are asked for at once, where changes give some of them.
 ghost use Rattle.std.specs.Prelude.{◌≡◌, ◌≤◌, ◌+◌, length, map, IfOk, IfErr};
 ghost use Rattle.std.specs.List.{AllZip};
-ghost use Rattle.pq_store.specs.Breaks.{IsAnswered};
 ghost use Rattle.pq_store.specs.Rounds.{IsValueOf, IsValueAnswered};
 ghost use Rattle.pq_calls.specs.World.{Affords, no_damage};
-ghost use Rattle.pq_pending.specs.Calls.{Uses, Fails, seen, answers_of};
+ghost use Rattle.pq_pending.specs.Calls.{AsksPending, seen, answers_of};
 ghost use Rattle.pq_pending.specs.Gets.{open_key, joined_value, joined_values};
 
 use crate::calls::{PendingCalls, copy_of};
@@ -86,10 +85,7 @@ impl<'p, 'a, S: Store<L>, L: Ledger> PendingCalls<'p, 'a, S, L> {
         keys: &[Option<Bytes>],
     ) -> Result<List<Option<Bytes>>, Broke>
         requires share { Affords self.old.allowance.now (length keys.now) (length keys.now) }
-        ensures uses { Uses S.content S.faults self.old self.new (length keys.now) (length keys.now) }
-        ensures round { S.rounds self.new.store.now ≤ S.rounds self.old.store.now + 1 }
-        ensures cause { IfErr result (Fails no_damage S.content S.faults self.old self.new) }
-        ensures answered { IfErr result (IsAnswered (answers_of S.answers self.old)) }
+        ensures asks { AsksPending S.Store no_damage self.old self.new (length keys.now) (length keys.now) 1 result }
         ensures long { IfOk result (λ found. length found ≡ length keys.now) }
         ensures answer { IfOk result (AllZip (IsValueOf (S.content self.old.store.now)) keys.now) }
         ensures answers { IfOk result (AllZip (IsValueAnswered S.answers) keys.now) }
@@ -104,10 +100,7 @@ impl<'p, 'a, S: Store<L>, L: Ledger> PendingCalls<'p, 'a, S, L> {
         keys: &[Option<Bytes>],
     ) -> Result<List<Option<Bytes>>, Broke>
         requires share { Affords self.old.allowance.now (length keys.now) (length keys.now) }
-        ensures uses { Uses S.content S.faults self.old self.new (length keys.now) (length keys.now) }
-        ensures round { S.rounds self.new.store.now ≤ S.rounds self.old.store.now + 1 }
-        ensures cause { IfErr result (Fails no_damage S.content S.faults self.old self.new) }
-        ensures answered { IfErr result (IsAnswered (answers_of S.answers self.old)) }
+        ensures asks { AsksPending S.Store no_damage self.old self.new (length keys.now) (length keys.now) 1 result }
         ensures long { IfOk result (λ found. length found ≡ length keys.now) }
         ensures answer { IfOk result (AllZip (IsValueOf (seen S.content self.old)) keys.now) }
         ensures answers { IfOk result (AllZip (IsValueAnswered (answers_of S.answers self.old)) keys.now) }
@@ -126,10 +119,7 @@ impl<'p, 'a, S: Store<L>, L: Ledger> PendingCalls<'p, 'a, S, L> {
         keys: &[Option<Bytes>],
     ) -> Result<List<Option<Bytes>>, Broke>
         requires share { Affords self.old.allowance.now (length keys.now) (length keys.now) }
-        ensures uses { Uses S.content S.faults self.old self.new (length keys.now) (length keys.now) }
-        ensures round { S.rounds self.new.store.now ≤ S.rounds self.old.store.now + 1 }
-        ensures cause { IfErr result (Fails no_damage S.content S.faults self.old self.new) }
-        ensures answered { IfErr result (IsAnswered (answers_of S.answers self.old)) }
+        ensures asks { AsksPending S.Store no_damage self.old self.new (length keys.now) (length keys.now) 1 result }
         ensures long { IfOk result (λ found. length found ≡ length keys.now) }
         ensures answer { IfOk result (AllZip (IsValueOf (seen S.content self.old)) keys.now) }
         ensures answers { IfOk result (AllZip (IsValueAnswered (answers_of S.answers self.old)) keys.now) }

@@ -1,10 +1,9 @@
 //! Tests that are asked for at once, where changes decide some of them.
 ghost use Rattle.std.specs.Prelude.{◌≡◌, ◌≤◌, ◌<◌, ◌+◌, ◌^◌, [], ◌∷◌, ◌++◌, length, filter, position, option_map, IfOk, IfErr, IfSome, IsTrue};
 ghost use Rattle.std.specs.List.{sum_by};
-ghost use Rattle.pq_store.specs.Breaks.{IsAnswered};
 ghost use Rattle.pq_store.specs.Rounds.{test_entries, is_held};
 ghost use Rattle.pq_calls.specs.World.{Affords, no_damage};
-ghost use Rattle.pq_pending.specs.Calls.{Uses, Fails, seen, answers_of};
+ghost use Rattle.pq_pending.specs.Calls.{AsksPending, seen, answers_of};
 ghost use Rattle.pq_pending.specs.Tests.{is_crowded, known_test, is_asked, stops, asked_place, seen_entries, GoOn, IsCountable, AreCountable, held_rounds};
 
 use crate::calls::PendingCalls;
@@ -131,10 +130,8 @@ impl<'p, 'a, S: Store<L>, L: Ledger> PendingCalls<'p, 'a, S, L> {
     // The place of the first test that holds of the store as it is.
     fn stored_first_held(&mut self, alloc: Global, tests: &[Test]) -> Result<Option<usize>, Broke>
         requires share { Affords self.old.allowance.now (length tests.now) (sum_by test_entries tests.now) }
-        ensures uses { Uses S.content S.faults self.old self.new (length tests.now) (sum_by test_entries tests.now) }
-        ensures round { S.rounds self.new.store.now ≤ S.rounds self.old.store.now + 1 }
-        ensures cause { IfErr result (Fails no_damage S.content S.faults self.old self.new) }
-        ensures answered { IfErr result (IsAnswered (answers_of S.answers self.old)) }
+        ensures asks { AsksPending S.Store no_damage self.old self.new
+            (length tests.now) (sum_by test_entries tests.now) 1 result }
         ensures answer { IfOk result (λ at. IfSome (S.content self.old.store.now)
             (λ c. at ≡ position (is_held c) tests.now)) }
         ensures within { IfOk result (λ at. IfSome at (λ i. i < length tests.now)) }
@@ -150,11 +147,8 @@ impl<'p, 'a, S: Store<L>, L: Ledger> PendingCalls<'p, 'a, S, L> {
         requires front { GoOn self.old.pending.now.changes tests.now }
         requires share { Affords self.old.allowance.now (length tests.now)
             (sum_by (seen_entries self.old.pending.now.changes) tests.now) }
-        ensures uses { Uses S.content S.faults self.old self.new (length tests.now)
-            (sum_by (seen_entries self.old.pending.now.changes) tests.now) }
-        ensures round { S.rounds self.new.store.now ≤ S.rounds self.old.store.now + 1 }
-        ensures cause { IfErr result (Fails no_damage S.content S.faults self.old self.new) }
-        ensures answered { IfErr result (IsAnswered (answers_of S.answers self.old)) }
+        ensures asks { AsksPending S.Store no_damage self.old self.new
+            (length tests.now) (sum_by (seen_entries self.old.pending.now.changes) tests.now) 1 result }
         ensures answer { IfOk result (λ at. IfSome (seen S.content self.old)
             (λ c. at ≡ position (is_held c) tests.now)) }
         ensures within { IfOk result (λ at. IfSome at (λ i. i < length tests.now)) }
@@ -172,11 +166,8 @@ impl<'p, 'a, S: Store<L>, L: Ledger> PendingCalls<'p, 'a, S, L> {
     fn holds(&mut self, alloc: Global, test: &Test) -> Result<bool, Broke>
         requires few { IsCountable self.old.pending.now.changes test.now }
         requires share { Affords self.old.allowance.now 1 (seen_entries self.old.pending.now.changes test.now) }
-        ensures uses { Uses S.content S.faults self.old self.new 1
-            (seen_entries self.old.pending.now.changes test.now) }
-        ensures round { S.rounds self.new.store.now ≤ S.rounds self.old.store.now + 1 }
-        ensures cause { IfErr result (Fails no_damage S.content S.faults self.old self.new) }
-        ensures answered { IfErr result (IsAnswered (answers_of S.answers self.old)) }
+        ensures asks { AsksPending S.Store no_damage self.old self.new
+            1 (seen_entries self.old.pending.now.changes test.now) 1 result }
         ensures answer { IfOk result (λ held. IfSome (seen S.content self.old) (λ c. held ≡ is_held c test.now)) }
     {
         match test {
@@ -200,11 +191,9 @@ impl<'p, 'a, S: Store<L>, L: Ledger> PendingCalls<'p, 'a, S, L> {
         requires few { IsCountable self.old.pending.now.changes stop.now }
         requires share { Affords self.old.allowance.now (length (front.now ++ stop.now ∷ []))
             (sum_by (seen_entries self.old.pending.now.changes) (front.now ++ stop.now ∷ [])) }
-        ensures uses { Uses S.content S.faults self.old self.new (length (front.now ++ stop.now ∷ []))
-            (sum_by (seen_entries self.old.pending.now.changes) (front.now ++ stop.now ∷ [])) }
-        ensures rounds { S.rounds self.new.store.now ≤ S.rounds self.old.store.now + 2 }
-        ensures cause { IfErr result (Fails no_damage S.content S.faults self.old self.new) }
-        ensures answered { IfErr result (IsAnswered (answers_of S.answers self.old)) }
+        ensures asks { AsksPending S.Store no_damage self.old self.new
+            (length (front.now ++ stop.now ∷ []))
+            (sum_by (seen_entries self.old.pending.now.changes) (front.now ++ stop.now ∷ [])) 2 result }
         ensures answer { IfOk result (λ at. IfSome (seen S.content self.old)
             (λ c. at ≡ position (is_held c) (front.now ++ stop.now ∷ []))) }
         ensures within { IfOk result (λ at. IfSome at (λ i. i < length (front.now ++ stop.now ∷ []))) }
@@ -224,12 +213,9 @@ impl<'p, 'a, S: Store<L>, L: Ledger> PendingCalls<'p, 'a, S, L> {
         requires few { AreCountable self.old.pending.now.changes tests.now }
         requires share { Affords self.old.allowance.now (length tests.now)
             (sum_by (seen_entries self.old.pending.now.changes) tests.now) }
-        ensures uses { Uses S.content S.faults self.old self.new (length tests.now)
-            (sum_by (seen_entries self.old.pending.now.changes) tests.now) }
-        ensures rounds { S.rounds self.new.store.now ≤ S.rounds self.old.store.now
-            + held_rounds self.old.pending.now.changes tests.now }
-        ensures cause { IfErr result (Fails no_damage S.content S.faults self.old self.new) }
-        ensures answered { IfErr result (IsAnswered (answers_of S.answers self.old)) }
+        ensures asks { AsksPending S.Store no_damage self.old self.new
+            (length tests.now) (sum_by (seen_entries self.old.pending.now.changes) tests.now)
+            (held_rounds self.old.pending.now.changes tests.now) result }
         ensures answer { IfOk result (λ at. IfSome (seen S.content self.old)
             (λ c. at ≡ position (is_held c) tests.now)) }
         ensures within { IfOk result (λ at. IfSome at (λ i. i < length tests.now)) }
@@ -256,12 +242,9 @@ impl<'p, 'a, S: Store<L>, L: Ledger> PendingCalls<'p, 'a, S, L> {
         requires few { AreCountable self.old.pending.now.changes tests.now }
         requires share { Affords self.old.allowance.now (length tests.now)
             (sum_by (seen_entries self.old.pending.now.changes) tests.now) }
-        ensures uses { Uses S.content S.faults self.old self.new (length tests.now)
-            (sum_by (seen_entries self.old.pending.now.changes) tests.now) }
-        ensures rounds { S.rounds self.new.store.now ≤ S.rounds self.old.store.now
-            + held_rounds self.old.pending.now.changes tests.now }
-        ensures cause { IfErr result (Fails no_damage S.content S.faults self.old self.new) }
-        ensures answered { IfErr result (IsAnswered (answers_of S.answers self.old)) }
+        ensures asks { AsksPending S.Store no_damage self.old self.new
+            (length tests.now) (sum_by (seen_entries self.old.pending.now.changes) tests.now)
+            (held_rounds self.old.pending.now.changes tests.now) result }
         ensures answer { IfOk result (λ at. IfSome (seen S.content self.old)
             (λ c. at ≡ position (is_held c) tests.now)) }
         ensures within { IfOk result (λ at. IfSome at (λ i. i < length tests.now)) }

@@ -1,4 +1,4 @@
-use Rattle.std.proofs.Common.{map}
+use Rattle.std.proofs.Common.{rules, map}
 use Rattle.std.proofs.lemmas.Result.{IfOk-weaker, IfErr-weaker}
 use Rattle.pq_store.specs.Content.{entry}
 use Rattle.pq_calls.specs.Calls.{seen_world}
@@ -13,17 +13,18 @@ pub values_in-requires-clause-front : goal.values_in-requires-clause-front
 values_in-requires-clause-front g c =
     part_long c.args.number c.args.access c.args.low.now c.args.high.now c.args.limit c.items.result.now c.requires.ends (rw c.items.ensures c.in_ok-pairs.ensures.part)
 
-pub returns-clause-cause : goal.returns-clause-cause
-returns-clause-cause g c =
-    let of : AreOfRange c.args.number c.args.access (g.S.Store.content c.args.calls.now.store.now) c.args.low.now c.args.high.now c.args.limit c.items.result.now =
-    record { ends = c.requires.ends; part = rw c.items.ensures c.in_ok-pairs.ensures.part; are = rw c.items.ensures c.in_ok-pairs.ensures.answer } in
-    IfErr-weaker c.values_in.result _ _
-    (λ why unread. unread_explains (where_told (ShowsRead c.args.catalog.now.tables)) (seen_world g.S.Store.content g.S.Store.faults c.args.calls.now) (seen_world g.S.Store.content g.S.Store.faults c.range.new.self) why
-    (unread (g.S.Store.content c.args.calls.now.store.now) c.args.low.now c.args.high.now c.args.limit of)) c.values_in.ensures.cause
-
-pub returns-clause-answered : goal.returns-clause-answered
-returns-clause-answered g c =
-    read_answered g.S.Store.answers (map entry c.items.result.now) (rw c.items.ensures c.in_ok-pairs.ensures.answers) TellsPair (λ pair damage tells. tells) c.values_in.result c.values_in.ensures.tells
+pub returns-clause-asks : goal.returns-clause-asks
+returns-clause-asks g c = record {
+  uses = search rules;
+  rounds = search rules;
+  cause =
+      let of : AreOfRange c.args.number c.args.access (g.S.Store.content c.args.calls.now.store.now) c.args.low.now c.args.high.now c.args.limit c.items.result.now =
+      record { ends = c.requires.ends; part = rw c.items.ensures c.in_ok-pairs.ensures.part; are = rw c.items.ensures c.in_ok-pairs.ensures.answer } in
+      IfErr-weaker c.values_in.result _ _
+      (λ why unread. unread_explains (where_told (ShowsRead c.args.catalog.now.tables)) (seen_world g.S.Store.content g.S.Store.faults c.args.calls.now) (seen_world g.S.Store.content g.S.Store.faults c.range.new.self) why
+      (unread (g.S.Store.content c.args.calls.now.store.now) c.args.low.now c.args.high.now c.args.limit of)) c.values_in.ensures.cause;
+  answered = read_answered g.S.Store.answers (map entry c.items.result.now) (rw c.items.ensures c.in_ok-pairs.ensures.answers) TellsPair (λ pair damage tells. tells) c.values_in.result c.values_in.ensures.tells;
+}
 
 pub returns-clause-few : goal.returns-clause-few
 returns-clause-few g c = few_of c.args.low.now c.args.high.now c.args.limit c.items.result.now (rw c.items.ensures c.in_ok-pairs.ensures.part) c.values_in.result c.values_in.ensures.long

@@ -1,4 +1,4 @@
-use Rattle.std.proofs.Common.{◌≡◌, ◌++◌, ◌+◌, ◌∙◌, List, [], ◌∷◌, take, sym, subst, arith}
+use Rattle.std.proofs.Common.{rules, ◌≡◌, ◌++◌, ◌+◌, ◌∙◌, List, [], ◌∷◌, take, sym, subst, arith}
 use Rattle.pq_content.specs.Pairs.{Change}
 use Rattle.pq_store.specs.declared.store.Test.{Test}
 use Rattle.pq_pending.specs.Calls.{seen}
@@ -44,44 +44,48 @@ seen_first_held-requires g t c κs within =
         (
           within.1,
           (
-            subst (λ (cs : List Change). AreCountable cs (rest_of tests i)) (sym (same_changes g.S.Store.content g.S.Store.faults c.args.self.now c.front_and_stop_held.new.self _ _ c.front_and_stop_held.ensures.uses)) few,
-            whole_share g.S.Store.content g.S.Store.faults c.args.self.now c.front_and_stop_held.new.self (take i tests ++ stop ∷ []) (rest_of tests i) tests whole c.front_and_stop_held.ensures.uses c.requires.share,
+            subst (λ (cs : List Change). AreCountable cs (rest_of tests i)) (sym (same_changes g.S.Store.content g.S.Store.faults c.args.self.now c.front_and_stop_held.new.self _ _ c.front_and_stop_held.ensures.asks.uses)) few,
+            whole_share g.S.Store.content g.S.Store.faults c.args.self.now c.front_and_stop_held.new.self (take i tests ++ stop ∷ []) (rest_of tests i) tests whole c.front_and_stop_held.ensures.asks.uses c.requires.share,
           ),
         ),
       ),
     )
 
-pub returns-in_err-rest-clause-uses : goal.returns-in_err-rest-clause-uses
-returns-in_err-rest-clause-uses g t c =
-    let tests = c.args.tests.now in
-    let i = c.in-Some.front in
-    let stop = c.index-tests-front.result in
-    whole_uses g.S.Store.content g.S.Store.faults c.args.self.now c.front_and_stop_held.new.self c.seen_first_held.new.self (take i tests ++ stop ∷ []) (rest_of tests i) tests (cut_stop c.args.self.now.pending.now.changes tests i c.first_stop.result stop c.first_stop.ensures c.in-Some.is c.index-tests-front.is)
-    c.front_and_stop_held.ensures.uses c.seen_first_held.ensures.uses
+pub returns-in_err-rest-clause-asks : goal.returns-in_err-rest-clause-asks
+returns-in_err-rest-clause-asks g t c = record {
+  uses =
+      let tests = c.args.tests.now in
+      let i = c.in-Some.front in
+      let stop = c.index-tests-front.result in
+      whole_uses g.S.Store.content g.S.Store.faults c.args.self.now c.front_and_stop_held.new.self c.seen_first_held.new.self (take i tests ++ stop ∷ []) (rest_of tests i) tests (cut_stop c.args.self.now.pending.now.changes tests i c.first_stop.result stop c.first_stop.ensures c.in-Some.is c.index-tests-front.is)
+      c.front_and_stop_held.ensures.asks.uses c.seen_first_held.ensures.asks.uses;
+  rounds =
+      let tests = c.args.tests.now in
+      let i = c.in-Some.front in
+      let stop = c.index-tests-front.result in
+      whole_rounds g.S.Store.content g.S.Store.faults c.args.self.now c.front_and_stop_held.new.self _ _ c.front_and_stop_held.ensures.asks.uses (take i tests) (rest_of tests i) tests stop (cut_stop c.args.self.now.pending.now.changes tests i c.first_stop.result stop c.first_stop.ensures c.in-Some.is c.index-tests-front.is)
+      (sym c.is_crowded.ensures ∙ c.if-not-is_crowded.false) _ _ _ c.front_and_stop_held.ensures.asks.rounds c.seen_first_held.ensures.asks.rounds;
+  cause = search rules;
+  answered = search rules;
+}
 
-pub returns-in_err-rest-clause-rounds : goal.returns-in_err-rest-clause-rounds
-returns-in_err-rest-clause-rounds g t c =
-    let tests = c.args.tests.now in
-    let i = c.in-Some.front in
-    let stop = c.index-tests-front.result in
-    whole_rounds g.S.Store.content g.S.Store.faults c.args.self.now c.front_and_stop_held.new.self _ _ c.front_and_stop_held.ensures.uses (take i tests) (rest_of tests i) tests stop (cut_stop c.args.self.now.pending.now.changes tests i c.first_stop.result stop c.first_stop.ensures c.in-Some.is c.index-tests-front.is)
-    (sym c.is_crowded.ensures ∙ c.if-not-is_crowded.false) _ _ _ c.front_and_stop_held.ensures.rounds c.seen_first_held.ensures.rounds
-
-pub returns-clause-uses : goal.returns-clause-uses
-returns-clause-uses g t c =
-    let tests = c.args.tests.now in
-    let i = c.in-Some.front in
-    let stop = c.index-tests-front.result in
-    whole_uses g.S.Store.content g.S.Store.faults c.args.self.now c.front_and_stop_held.new.self c.seen_first_held.new.self (take i tests ++ stop ∷ []) (rest_of tests i) tests (cut_stop c.args.self.now.pending.now.changes tests i c.first_stop.result stop c.first_stop.ensures c.in-Some.is c.index-tests-front.is)
-    c.front_and_stop_held.ensures.uses c.seen_first_held.ensures.uses
-
-pub returns-clause-rounds : goal.returns-clause-rounds
-returns-clause-rounds g t c =
-    let tests = c.args.tests.now in
-    let i = c.in-Some.front in
-    let stop = c.index-tests-front.result in
-    whole_rounds g.S.Store.content g.S.Store.faults c.args.self.now c.front_and_stop_held.new.self _ _ c.front_and_stop_held.ensures.uses (take i tests) (rest_of tests i) tests stop (cut_stop c.args.self.now.pending.now.changes tests i c.first_stop.result stop c.first_stop.ensures c.in-Some.is c.index-tests-front.is)
-    (sym c.is_crowded.ensures ∙ c.if-not-is_crowded.false) _ _ _ c.front_and_stop_held.ensures.rounds c.seen_first_held.ensures.rounds
+pub returns-clause-asks : goal.returns-clause-asks
+returns-clause-asks g t c = record {
+  uses =
+      let tests = c.args.tests.now in
+      let i = c.in-Some.front in
+      let stop = c.index-tests-front.result in
+      whole_uses g.S.Store.content g.S.Store.faults c.args.self.now c.front_and_stop_held.new.self c.seen_first_held.new.self (take i tests ++ stop ∷ []) (rest_of tests i) tests (cut_stop c.args.self.now.pending.now.changes tests i c.first_stop.result stop c.first_stop.ensures c.in-Some.is c.index-tests-front.is)
+      c.front_and_stop_held.ensures.asks.uses c.seen_first_held.ensures.asks.uses;
+  rounds =
+      let tests = c.args.tests.now in
+      let i = c.in-Some.front in
+      let stop = c.index-tests-front.result in
+      whole_rounds g.S.Store.content g.S.Store.faults c.args.self.now c.front_and_stop_held.new.self _ _ c.front_and_stop_held.ensures.asks.uses (take i tests) (rest_of tests i) tests stop (cut_stop c.args.self.now.pending.now.changes tests i c.first_stop.result stop c.first_stop.ensures c.in-Some.is c.index-tests-front.is)
+      (sym c.is_crowded.ensures ∙ c.if-not-is_crowded.false) _ _ _ c.front_and_stop_held.ensures.asks.rounds c.seen_first_held.ensures.asks.rounds;
+  cause = search rules;
+  answered = search rules;
+}
 
 pub returns-clause-answer : goal.returns-clause-answer
 returns-clause-answer g t c =
@@ -91,4 +95,4 @@ returns-clause-answer g t c =
     let changes = c.args.self.now.pending.now.changes in
     let less = stop_inside changes tests i c.first_stop.result stop c.first_stop.ensures c.in-Some.is in
     found_rest (seen g.S.Store.content c.args.self.now) (seen g.S.Store.content c.front_and_stop_held.new.self) (take i tests ++ stop ∷ []) (rest_of tests i) tests (cut_stop changes tests i c.first_stop.result stop c.first_stop.ensures c.in-Some.is c.index-tests-front.is)
-    c.front_and_stop_held.ensures.uses.reads.same c.in_ok-at.field-0 c.behind.result c.in_ok-rest.rest (i + 1) (stop_length tests i stop less) c.in_default-2.is c.in_ok-at.ensures.answer c.in_ok-rest.ensures.answer c.behind.ensures
+    c.front_and_stop_held.ensures.asks.uses.reads.same c.in_ok-at.field-0 c.behind.result c.in_ok-rest.rest (i + 1) (stop_length tests i stop less) c.in_default-2.is c.in_ok-at.ensures.answer c.in_ok-rest.ensures.answer c.behind.ensures

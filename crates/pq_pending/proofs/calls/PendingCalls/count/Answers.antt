@@ -21,7 +21,7 @@ returns-clause-answer g c =
     let found = map entry c.in_ok-found.found in
     let is : c.counted.result ≡ counted_with low high cap changes found =
     c.counted.ensures
-    ∙ ap (λ pending. counted_with low high cap pending.now.changes (map entry c.items.result.now)) c.in_ok-found.ensures.uses.same_pending
+    ∙ ap (λ pending. counted_with low high cap pending.now.changes (map entry c.items.result.now)) c.in_ok-found.ensures.asks.uses.same_pending
     ∙ ap (λ (pairs : List Pair). counted_with low high cap changes (map entry pairs)) c.items.ensures in
     let part : IfSome store (λ (content : Content). found ≡ take (cap + removals_within low high changes) (pairs_within content low high)) =
     subst (λ (n : ℕ). IfSome store (λ (content : Content). found ≡ take (cap + n) (pairs_within content low high))) c.removals_within-removed.ensures c.in_ok-found.ensures.answer in

@@ -13,7 +13,7 @@ returns-clause-long g c =
     let changes = c.args.self.now.pending.now.changes in
     let is : c.in_ok-joined_values.field-0 ≡ joined_values changes keys c.in_ok-stored.stored =
     c.in_ok-joined_values.ensures
-    ∙ ap (λ pending. joined_values pending.now.changes keys c.items-2.result.now) c.in_ok-stored.ensures.uses.same_pending
+    ∙ ap (λ pending. joined_values pending.now.changes keys c.items-2.result.now) c.in_ok-stored.ensures.asks.uses.same_pending
     ∙ ap (joined_values changes keys) c.items-2.ensures in
     let long : length c.in_ok-stored.stored ≡ length keys =
     c.in_ok-stored.ensures.long ∙ ap length (c.items.ensures ∙ c.in_ok-asked.ensures) ∙ length-map keys (open_key changes) in
@@ -26,7 +26,7 @@ returns-clause-answer g c =
     let store = g.S.Store.content c.args.self.now.store.now in
     let is : c.in_ok-joined_values.field-0 ≡ joined_values changes keys c.in_ok-stored.stored =
     c.in_ok-joined_values.ensures
-    ∙ ap (λ pending. joined_values pending.now.changes keys c.items-2.result.now) c.in_ok-stored.ensures.uses.same_pending
+    ∙ ap (λ pending. joined_values pending.now.changes keys c.items-2.result.now) c.in_ok-stored.ensures.asks.uses.same_pending
     ∙ ap (joined_values changes keys) c.items-2.ensures in
     let stored : AllZip (IsValueOf store) (map (open_key changes) keys) c.in_ok-stored.stored =
     subst (λ (ks : List (Option (List ℕ))). AllZip (IsValueOf store) ks c.in_ok-stored.stored) (c.items.ensures ∙ c.in_ok-asked.ensures) c.in_ok-stored.ensures.answer in
@@ -40,7 +40,7 @@ returns-clause-answers g c =
     let answers = g.S.Store.answers in
     let is : c.in_ok-joined_values.field-0 ≡ joined_values changes keys c.in_ok-stored.stored =
     c.in_ok-joined_values.ensures
-    ∙ ap (λ pending. joined_values pending.now.changes keys c.items-2.result.now) c.in_ok-stored.ensures.uses.same_pending
+    ∙ ap (λ pending. joined_values pending.now.changes keys c.items-2.result.now) c.in_ok-stored.ensures.asks.uses.same_pending
     ∙ ap (joined_values changes keys) c.items-2.ensures in
     let stored : AllZip (IsValueAnswered answers) (map (open_key changes) keys) c.in_ok-stored.stored =
     subst (λ (ks : List (Option (List ℕ))). AllZip (IsValueAnswered answers) ks c.in_ok-stored.stored) (c.items.ensures ∙ c.in_ok-asked.ensures) c.in_ok-stored.ensures.answers in
