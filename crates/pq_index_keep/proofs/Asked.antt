@@ -27,11 +27,18 @@ use Rattle.pq_store.specs.Rounds.{is_held}
 use Rattle.pq_row_keys.specs.Groups.{group_key}
 use Rattle.pq_store.specs.declared.store.Test.{Test}
 use Rattle.pq_store.specs.declared.store.Test.TheVariants.{Has, Lacks, Full}
+use Rattle.pq_store.specs.declared.store.Store.{Ghosts}
+use Rattle.pq_pending.specs.Calls.{Uses}
+use Rattle.pq_pending.specs.declared.calls.PendingCalls.{PendingCalls}
+use Rattle.pq_pending.proofs.Steps.{uses_within}
 use Rattle.pq_pending.specs.Pending.{RemovesAtMost}
 use Rattle.pq_pending.specs.Tests.{is_crowded, seen_entries, IsCountable, AreCountable, held_rounds, place_among}
 use Rattle.pq_pending.proofs.Firsts.{or_behind, position_append, place, place_is, IsDecided, position_asked, among_within}
 use Rattle.pq_index_keep.specs.Asking.{IsOwn, own_refusal, asks_parent, parent_test, parent_tests, asks_room, room_test, room_tests, row_tests, test_refusal}
-use Rattle.pq_index_keep.specs.Bounds.{tested_foreign, tested_limits, tested_n_behind}
+use Rattle.pq_index_keep.specs.Bounds.{tested_foreign, tested_limits, tested_n_behind, row_behind, with_more}
+use Rattle.pq_index_keep.specs.NewRows.{tests_of}
+use Rattle.pq_index_keep.specs.Spending.{Spends}
+use Rattle.pq_index_keep.specs.declared.write.NewRow.{NewRow}
 use Rattle.pq_index_keep.specs.Effects.{stays, is_missing, lacks_parent, no_parent, parent_refusal, is_full, lacks_room, no_room, room_refusal, insert_refusal}
 use Rattle.pq_index_keep.specs.Promises.{HoldsRows, IsTested}
 use Rattle.pq_index_keep.specs.Refusals.{IsTestRefusal, IsInsertRefusal, IsAskedRefusal}
@@ -438,6 +445,15 @@ tests_rounds changes removers thin own tests of old t table row kind are =
       crowded_few changes rs,
       few,
     ))
+
+-- all that the tests take, asked for at once
+pub asked_spend : {S L : Type 0} (s : Ghosts S L) (before after : PendingCalls S L) (own tests : List Test) (new : NewRow) → IsOwn new.number new.table.now new.row.now own → tests ≡ own ++ tests_of new → RemovesAtMost before.pending.now.removers before.pending.now.changes
+    → Uses s.content s.faults before after (length tests) (sum_by (seen_entries before.pending.now.changes) tests) → s.rounds after.store.now ≤ s.rounds before.store.now + held_rounds before.pending.now.changes tests
+    → Spends s before after (with_more (length own) (row_behind before.pending.now.removers new.scope.now new.table.now)) (test_rounds before.pending.now.changes (tested_limits new.scope.now new.table.now.limits))
+asked_spend s before after own tests new kind are thin uses rounds =
+    let cheap = tests_cheap before.pending.now.changes before.pending.now.removers thin own tests new.scope.now new.old.now new.number new.table.now new.row.now kind are in
+    let few = tests_rounds before.pending.now.changes before.pending.now.removers thin own tests new.scope.now new.old.now new.number new.table.now new.row.now kind are in
+    record { uses = uses_within s.content s.faults before after _ _ _ _ uses cheap.few cheap.short; rounds = omega (arith, rounds, few) }
 
 -- ---- what is told where none holds
 

@@ -1,5 +1,5 @@
 -- What the tests of a write may read behind writes that remove pairs.
-use Rattle.std.proofs.Common.{◌≡◌, ℕ, ◌+◌, ◌*◌, ◌≤◌, ◌==◌, Bool, true, false, cond, List, [], ◌∷◌, length, refl, sym, ap, ◌∙◌, arith}
+use Rattle.std.proofs.Common.{◌≡◌, ℕ, ◌+◌, ◌*◌, ◌≤◌, ◌==◌, Bool, true, false, cond, List, [], ◌∷◌, length, refl, sym, ap, subst, ◌∙◌, arith}
 use Rattle.std.specs.List.{sum_by, count_by}
 use Rattle.std.proofs.lemmas.List.Sums.{sum_by-cons, count_by-le-length}
 use Rattle.std.proofs.Math.Nat.{mul-le-mul_left}
@@ -8,14 +8,18 @@ use Rattle.pq_base.specs.declared.value.Value.{Value}
 use Rattle.pq_schema.specs.declared.table.Limit.{Limit}
 use Rattle.pq_schema.specs.declared.table.Table.{Table}
 use Rattle.pq_schema.specs.Tables.{table_at}
+use Rattle.pq_store.specs.declared.store.Store.{Ghosts}
+use Rattle.pq_pending.specs.Calls.{Uses}
+use Rattle.pq_pending.specs.declared.calls.PendingCalls.{PendingCalls}
 use Rattle.pq_pending.proofs.Lists.{count-cons}
+use Rattle.pq_index_keep.specs.Spending.{Spends}
 use Rattle.pq_index_keep.specs.declared.write.Cond.{Cond}
 use Rattle.pq_index_keep.specs.declared.write.Scope.{Scope}
 use Rattle.pq_index_keep.specs.declared.write.Scope.TheVariants as scope
 use Rattle.pq_index_keep.specs.declared.write.SetCol.{SetCol}
 use Rattle.pq_index_keep.specs.declared.write.Write.{Write}
 use Rattle.pq_index_keep.specs.declared.write.Write.TheVariants as write
-use Rattle.pq_index_keep.specs.Bounds.{tested_limits, tested_n, tested_n_behind, tested_behind, tests, refers, refers_behind, referring_count, referring_behind, counted, tests_behind, write_tests}
+use Rattle.pq_index_keep.specs.Bounds.{tested_limits, tested_n, tested_n_behind, tested_behind, tests, with_more, children_behind, refers, refers_behind, referring_count, referring_behind, counted, tests_behind, write_tests}
 use Rattle.pq_index_keep.specs.Rounds.{write_rounds, alone_rounds}
 use Rattle.pq_index_keep.specs.Sound.{AreWritable, IsWrite}
 use Rattle.pq_index_keep.specs.Tested.{touches, scope_of}
@@ -82,13 +86,18 @@ module _ (removers : ℕ) (tables : List Table) (w : Write) (t : ℕ) where
       ap (tests_behind removers tables) is
       ∙ (λ i. record { ops = (tests (scope_of sets) (table_at tables t)).ops; entries = table_behind removers (scope_of sets) (table_at tables t) i })
 
-  abbrev pub delete_bound : Bound
-  delete_bound = record { ops = 1 + referring_count tables t; entries = 1 + referring_behind removers tables t }
-
-  pub delete_behind : (key : List Value) (conds : List Cond) → w ≡ write.Delete t key conds → tests_behind removers tables w ≡ delete_bound
+  pub delete_behind : (key : List Value) (conds : List Cond) → w ≡ write.Delete t key conds → tests_behind removers tables w ≡ with_more 1 (children_behind removers tables t)
   delete_behind key conds is =
       let entries : 1 + referring_count tables t + referring_count tables t * removers ≡ 1 + referring_behind removers tables t = omega (arith, referring_is removers t tables) in
       ap (tests_behind removers tables) is ∙ (λ i. record { ops = 1 + referring_count tables t; entries = entries i })
+
+-- what was spent by the bound of this write
+pub spent_as : {S L : Type 0} (s : Ghosts S L) (before after : PendingCalls S L) (tables : List Table) (w one : Write) (bound : Bound) → w ≡ one → tests_behind before.pending.now.removers tables w ≡ bound → Spends s before after bound (write_rounds before.pending.now.changes tables one)
+    → Spends s before after (tests_behind before.pending.now.removers tables w) (write_rounds before.pending.now.changes tables w)
+spent_as s before after tables w one bound is same spent = record {
+  uses = subst (λ (b : Bound). Uses s.content s.faults before after b.ops b.entries) (sym same) spent.uses;
+  rounds = subst (λ (v : Write). s.rounds after.store.now ≤ s.rounds before.store.now + write_rounds before.pending.now.changes tables v) (sym is) spent.rounds;
+}
 
 -- ---- they are few
 

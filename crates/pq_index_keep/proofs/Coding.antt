@@ -3,6 +3,7 @@ use Rattle.std.proofs.Common.{◌≡◌, ℕ, suc, ◌+◌, ◌*◌, ◌≤◌, 
 use Rattle.std.specs.Prelude.{All, IfSome, filter}
 use Rattle.std.specs.List.{AllByRecursion, count_by}
 use Rattle.std.proofs.lemmas.List.Sums.{count_by-le-length, length-filter}
+use Rattle.pq_index_keep.specs.Needs.{IsCodable}
 use Rattle.pq_index_keep.specs.Tested.{touches_index}
 use Rattle.pq_index_keep.specs.declared.write.Scope.{Scope}
 use Rattle.std.proofs.lemmas.List.{length-append, length-map}
@@ -60,6 +61,9 @@ module _ (tables : List Table) (table : Table) (w : IsWritable tables table) (ro
 
   pub fit_columns : length row ≤ 32
   fit_columns = omega (arith, length_from_fits (types_of table) row fits, length-map table.columns (λ (column : Column). column.ty), w.made.few_columns)
+
+  pub codable : IsCodable row
+  codable = record { columns = fit_columns; texts = fit_texts }
 
 field_short : (x : Value) → IsShort x → length (field x) ≤ 1002
 field_short value.Null h = omega arith

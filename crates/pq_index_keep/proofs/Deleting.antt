@@ -89,13 +89,6 @@ module _ (tables : List Table) (rows : Rows) (others : List Pair) (told : Option
   pub undamaged : (damage : Damage) → where_told (IsNoRow tables) told damage → ⊥
   undamaged damage h = no_row_shown damage (subst (λ (o : Option Content). where_told (IsNoRow tables) o damage) s.is h)
 
--- so a call that tells such damage alone tells none
-pub told_undamaged : {A : Type 0} (tables : List Table) (a b : World) (result : Result A Broke) → IfErr result (Explains (where_told (IsNoRow tables)) a b)
-    → IfErr result (λ error. (rows : Rows) (others : List Pair) → HoldsRows a.told tables rows others → IsUndamaged error)
-told_undamaged tables a b result h =
-    IfErr-weaker result (Explains (where_told (IsNoRow tables)) a b) (λ error. (rows : Rows) (others : List Pair) → HoldsRows a.told tables rows others → IsUndamaged error)
-    (λ error why rows others s. explained_undamaged (where_told (IsNoRow tables)) a b error (undamaged tables rows others a.told s) why) h
-
 -- where nothing is read, no row is there
 pub none_read : (found : Option StoredRow) (row : Option (List Value)) → found ≡ None → option_map (λ stored. stored.row) found ≡ row → None ≡ row
 none_read found row none is = ap (option_map (λ (stored : StoredRow). stored.row)) (sym none) ∙ is

@@ -9,11 +9,13 @@ pub mod Few
 pub mod Fitting
 pub mod Inserting
 pub mod Narrow
+pub mod Planning
 pub mod Ranged
 pub mod Referring
 pub mod Refusing
 pub mod Removing
 pub mod Shortened
+pub mod Spending
 pub mod Tests
 pub mod Touching
 pub mod Updating

@@ -23,12 +23,17 @@ use Rattle.pq_pending.specs.Pending.{RemovesAtMost}
 use Rattle.pq_pending.specs.Tests.{seen_entries, AreCountable, held_rounds, place_among}
 use Rattle.pq_pending.proofs.Firsts.{or_behind, position_append, IsDecided}
 use Rattle.pq_index_keep.specs.Asking.{refers_to, child_test, naming_tests, child_tests, child_refusal_at}
-use Rattle.pq_index_keep.specs.Bounds.{refers, referring_count, names_behind, refers_behind, referring_behind}
+use Rattle.pq_index_keep.specs.Bounds.{children_behind, refers, referring_count, names_behind, refers_behind, referring_behind}
 use Rattle.pq_index_keep.specs.Effects.{names_key, referenced_refusal, child_refusal}
 use Rattle.pq_index_keep.specs.Promises.{HoldsRows}
 use Rattle.pq_index_keep.specs.Refusals.{IsDeleteRefusal}
 use Rattle.pq_index_keep.specs.Rounds.{test_rounds}
 use Rattle.pq_index_keep.specs.Sound.{AreWritable, IsWritable, MayName}
+use Rattle.pq_store.specs.declared.store.Store.{Ghosts}
+use Rattle.pq_pending.specs.Calls.{Uses}
+use Rattle.pq_pending.specs.declared.calls.PendingCalls.{PendingCalls}
+use Rattle.pq_pending.proofs.Steps.{uses_within}
+use Rattle.pq_index_keep.specs.Spending.{Spends}
 use Rattle.pq_index_keep.proofs.Asked.{AreCheap, asked_first, asked_inside, crowded_few, group_entries, group_countable, rounds_within}
 use Rattle.pq_index_keep.proofs.Deleting.{drop_here}
 use Rattle.pq_index_keep.proofs.Inserting.{position_inside}
@@ -242,3 +247,12 @@ module _ (changes : List Change) (removers : ℕ) (thin : RemovesAtMost removers
   children_rounds t key tables tests are =
       let long = ap length are ∙ child_length t key 1 tables in
       rounds_within changes tests (referring_count tables t) (omega (arith, long, crowded_few changes tests))
+
+-- all that the tests take, asked for at once
+pub children_spend : {S L : Type 0} (s : Ghosts S L) (before after : PendingCalls S L) (t : ℕ) (key : List Value) (tables : List Table) (tests : List Test) → tests ≡ child_tests t key 1 tables → RemovesAtMost before.pending.now.removers before.pending.now.changes
+    → Uses s.content s.faults before after (length tests) (sum_by (seen_entries before.pending.now.changes) tests) → s.rounds after.store.now ≤ s.rounds before.store.now + held_rounds before.pending.now.changes tests
+    → Spends s before after (children_behind before.pending.now.removers tables t) (test_rounds before.pending.now.changes (referring_count tables t))
+children_spend s before after t key tables tests are thin uses rounds =
+    let cheap = children_cheap before.pending.now.changes before.pending.now.removers thin t key tables tests are in
+    let few = children_rounds before.pending.now.changes before.pending.now.removers thin t key tables tests are in
+    record { uses = uses_within s.content s.faults before after _ _ _ _ uses cheap.few cheap.short; rounds = omega (arith, rounds, few) }

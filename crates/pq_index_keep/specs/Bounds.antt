@@ -81,6 +81,21 @@ tested_behind removers of table = record {
   entries = 1 + tested_foreign of table.foreign + sum_by (tested_n_behind removers of) table.limits;
 }
 
+-- of foreign keys and limits alone
+abbrev pub row_behind : ℕ → Scope → Table → Bound
+row_behind removers of table = record {
+  ops = tested_foreign of table.foreign + tested_limits of table.limits;
+  entries = tested_foreign of table.foreign + sum_by (tested_n_behind removers of) table.limits;
+}
+
+-- what a look at one key takes
+abbrev pub one_get : Bound
+one_get = record { ops = 1; entries = 1 }
+
+-- so many operations and entries more
+abbrev pub with_more : ℕ → Bound → Bound
+with_more n bound = record { ops = n + bound.ops; entries = n + bound.entries }
+
 -- what may be read of the rows that name a row of a table
 abbrev pub names_behind : ℕ → ℕ → Foreign → ℕ
 names_behind removers t foreign = if foreign.table == t then 1 + removers else 0
@@ -90,6 +105,11 @@ refers_behind removers t table = sum_by (names_behind removers t) table.foreign
 
 abbrev pub referring_behind : ℕ → List Table → ℕ → ℕ
 referring_behind removers tables t = sum_by (refers_behind removers t) tables
+
+-- of all foreign keys that refer to the table
+abbrev pub children_behind : ℕ → List Table → ℕ → Bound
+children_behind removers tables t =
+    record { ops = referring_count tables t; entries = referring_behind removers tables t }
 
 -- behind so many writes that remove pairs each count may read as many more
 abbrev pub tests_behind : ℕ → List Table → Write → Bound

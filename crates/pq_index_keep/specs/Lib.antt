@@ -2,9 +2,13 @@ pub mod Asking
 pub mod Bounds
 pub mod Checking
 pub mod Effects
+pub mod Keyed
 pub mod Moved
+pub mod Needs
+pub mod NewRows
 pub mod Promises
 pub mod Refusals
 pub mod Rounds
 pub mod Sound
+pub mod Spending
 pub mod Tested

@@ -11,7 +11,7 @@ use Rattle.pq_schema.specs.Tables.{table_at}
 use Rattle.pq_content.specs.Pairs.{Pair, Change as Changed, changed_content, content_pairs, entries_from, entry_changes, pairs_of_row, puts, removals}
 pub use Rattle.pq_content.specs.Pairs.{HoldsRows}
 use Rattle.pq_content.specs.Standing.{change_of, AreOfRows}
-use Rattle.pq_content.specs.Tables.{Rows, AllOfKinds, types_of, shape_of, key_of, key_types, cells, stored_code, Keeps}
+use Rattle.pq_content.specs.Tables.{Rows, AllOfKinds, types_of, shape_of, key_of, key_types, cells, row_at, stored_code, Keeps}
 use Rattle.pq_store.specs.Content.{Content}
 use Rattle.pq_calls.specs.Evidence.{IsRead}
 use Rattle.pq_pending.specs.Pending.{RemovesAtMost}
@@ -19,11 +19,14 @@ use Rattle.pq_store.specs.Rounds.{is_held}
 use Rattle.pq_store.specs.declared.store.Test.{Test}
 use Rattle.pq_store.specs.declared.store.Test.TheVariants.{Has}
 use Rattle.pq_index_keep.specs.Asking.{row_tests, child_tests}
-use Rattle.pq_index_keep.specs.Bounds.{removers_of}
+use Rattle.pq_index_keep.specs.Bounds.{most_changes, removers_of}
 use Rattle.pq_index_keep.specs.Effects.{effect, changes_of, condition_refusal, held_refusal}
 use Rattle.pq_index_keep.specs.Tested.{scope_of, with_sets}
+use Rattle.pq_index_keep.specs.Refusals.{RefusesAs}
 use Rattle.pq_index_keep.specs.declared.plan.Planned.{Planned}
 use Rattle.pq_index_keep.specs.declared.plan.Planned.TheVariants as planned
+use Rattle.pq_index_keep.specs.declared.plan.PlannedWrite.{PlannedWrite}
+use Rattle.pq_index_keep.specs.declared.write.Cond.{Cond}
 use Rattle.pq_index_keep.specs.declared.write.Scope.TheVariants as scope
 use Rattle.pq_index_keep.specs.declared.write.Write.{Write}
 use Rattle.pq_index_keep.specs.declared.write.Write.TheVariants as write
@@ -141,3 +144,54 @@ ChangesFrom tables write old (planned.Refused refusal) = Unit {0}
 abbrev pub ChangesOwn : List Table → Write → Planned → Type 0
 ChangesOwn tables write planned =
     (old : Option (List Value)) × FitsItsTable tables write old × ChangesFrom tables write old planned
+
+-- ---- all that is promised of a plan
+
+module _ (tables : List Table) (told : Option Content) (write : Write) where
+  -- what is planned by the row that was read
+  pub record IsPlanOf (old : Option (List Value)) (planned : Planned) : Type 0 where
+    pub within : IsPlannedWithin (most_changes tables write) planned
+    pub own : ChangesFrom tables write old planned
+    pub short : IsShortWithin planned
+    pub thin : RemovesFew write planned
+    pub can : RefusesAs tables write planned
+    pub passed : IsAllowed tables write old told planned
+
+  -- over all rows that the content stands for
+  abbrev pub PlansAll : Planned → Type 0
+  PlansAll planned = (rows : Rows) (others : List Pair) → HoldsRows told tables rows others
+      → Plans tables rows others write planned
+
+  -- the same where one of them is the row with this key
+  abbrev pub PlansHeld : ℕ → List Value → List Value → Planned → Type 0
+  PlansHeld t key old planned = (rows : Rows) (others : List Pair) → HoldsRows told tables rows others
+      → Some old ≡ row_at tables rows t key → Plans tables rows others write planned
+
+  -- what is planned of a row that is there
+  pub record IsHeldPlan (t : ℕ) (key old : List Value) (planned : Planned) : Type 0 where
+    pub plan : IsPlanOf (Some old) planned
+    pub answer : PlansHeld t key old planned
+
+  -- a plan with the row that was read for it and the one that comes in its place
+  pub record IsPlannedWrite (made : PlannedWrite) : Type 0 where
+    pub plan : IsPlanOf made.old made.planned
+    pub answer : PlansAll made.planned
+    pub read : IfSome told (λ c. IsReadFor tables write c made.old)
+    pub fits : FitsItsTable tables write made.old
+    pub new : IsNewFor tables write made.old made.new
+
+-- what is planned of a row that is there, by a write whose conditions are any that hold of it
+module _ (tables : List Table) (told : Option Content) (t : ℕ) (key old : List Value) (write : List Cond → Write) where
+  abbrev pub Hold : List Cond → Type 0
+  Hold conds = condition_refusal (table_at tables t) conds old ≡ None
+
+  pub record IsPlanWhere (planned : Planned) : Type 0 where
+    pub within : (conds : List Cond) → IsPlannedWithin (most_changes tables (write conds)) planned
+    pub own : (conds : List Cond) → Hold conds → ChangesFrom tables (write conds) (Some old) planned
+    pub short : IsShortWithin planned
+    pub thin : (conds : List Cond) → RemovesFew (write conds) planned
+    pub can : (conds : List Cond) → RefusesAs tables (write conds) planned
+    pub passed : (conds : List Cond) → IsAllowed tables (write conds) (Some old) told planned
+    pub answer : (rows : Rows) (others : List Pair) → HoldsRows told tables rows others
+        → Some old ≡ row_at tables rows t key → (conds : List Cond) → Hold conds
+        → Plans tables rows others (write conds) planned

@@ -1,10 +1,10 @@
 //! The changes that a write makes of the pairs of a row.
-ghost use Rattle.std.specs.Prelude.{◌≡◌, ◌≤◌, ◌<◌, ◌+◌, ◌∷◌, ◌++◌, All, length, map, IfOk, OnOk, Some, None};
-ghost use Rattle.pq_row_code.specs.RowCode.{IsShort};
+ghost use Rattle.std.specs.Prelude.{◌≡◌, ◌+◌, ◌∷◌, ◌++◌, map, IfOk, OnOk, Some, None};
 ghost use Rattle.pq_schema.specs.Sound.{AreColumns, AreParts};
 ghost use Rattle.pq_content.specs.Pairs.{entries_from, entry_changes, puts, removals};
 ghost use Rattle.pq_content.specs.Standing.{change_of};
 ghost use Rattle.pq_index_keep.specs.Moved.{moved_entry_changes};
+ghost use Rattle.pq_index_keep.specs.Needs.{AreIndexes, IsCodable};
 ghost use Rattle.pq_content.specs.Tables.{stored_code};
 
 use pq_base::{Bytes, List, NoMem, Row};
@@ -15,8 +15,7 @@ use std::alloc::Global;
 
 /// The change that writes the row at its key.
 fn put_row(alloc: Global, at: Bytes, table: &Table, row: &Row) -> Result<Change, NoMem>
-    requires columns { length row.now ≤ 32 }
-    requires texts { All IsShort row.now }
+    requires row { IsCodable row.now }
     ensures { IfOk result (λ change. change_of change ≡ (at, Some (stored_code table.now row.now))) }
 {
     let new = Some(encode_stored(alloc, row, &table.fillers)?);
@@ -31,11 +30,8 @@ pub(crate) fn puts(
     table: &Table,
     row: &Row,
 ) -> Result<List<Change>, NoMem>
-    requires key { AreColumns table.now.key }
-    requires parts { All (λ index. AreParts index.cols) table.now.indexes }
-    requires few { length table.now.indexes ≤ 16 }
-    requires columns { length row.now ≤ 32 }
-    requires texts { All IsShort row.now }
+    requires indexes { AreIndexes table.now table.now.indexes }
+    requires row { IsCodable row.now }
     ensures { IfOk result (λ changes. map change_of changes
         ≡ (at, Some (stored_code table.now row.now))
         ∷ puts (entries_from number 1 table.now table.now.indexes row.now)) }
@@ -62,9 +58,7 @@ fn put_entries(
     row: &Row,
     changes: &mut List<Change>,
 ) -> Result<(), NoMem>
-    requires key { AreColumns table.now.key }
-    requires parts { All (λ index. AreParts index.cols) indexes.now }
-    requires few { length indexes.now ≤ 16 }
+    requires indexes { AreIndexes table.now indexes.now }
     ensures { OnOk result (map change_of changes.new
         ≡ map change_of changes.old ++ puts (entries_from number 1 table.now indexes.now row.now)) }
 {
@@ -84,9 +78,7 @@ pub(crate) fn removals(
     table: &Table,
     row: &Row,
 ) -> Result<List<Change>, NoMem>
-    requires key { AreColumns table.now.key }
-    requires parts { All (λ index. AreParts index.cols) table.now.indexes }
-    requires few { length table.now.indexes ≤ 16 }
+    requires indexes { AreIndexes table.now table.now.indexes }
     ensures { IfOk result (λ changes. map change_of changes
         ≡ (at, None) ∷ removals (entries_from number 1 table.now table.now.indexes row.now)) }
 {
@@ -112,9 +104,7 @@ fn remove_entries(
     row: &Row,
     changes: &mut List<Change>,
 ) -> Result<(), NoMem>
-    requires key { AreColumns table.now.key }
-    requires parts { All (λ index. AreParts index.cols) indexes.now }
-    requires few { length indexes.now ≤ 16 }
+    requires indexes { AreIndexes table.now indexes.now }
     ensures { OnOk result (map change_of changes.new
         ≡ map change_of changes.old ++ removals (entries_from number 1 table.now indexes.now row.now)) }
 {
@@ -125,23 +115,35 @@ fn remove_entries(
     Ok(())
 }
 
+/// An index at its place among those of a table.
+#[derive(Clone, Copy)]
+struct PlacedIndex<'a> {
+    number: u8,
+    table: &'a Table,
+    place: u8,
+    index: &'a Index,
+}
+
 /// Puts the removal of the old entry in an index and the write of the new one behind the changes,
 /// where the two differ.
 fn move_entry(
     alloc: Global,
-    number: u8,
-    place: u8,
-    table: &Table,
-    index: &Index,
+    placed: &PlacedIndex<'_>,
     old: &Row,
     new: &Row,
     changes: &mut List<Change>,
 ) -> Result<(), NoMem>
-    requires key { AreColumns table.now.key }
-    requires parts { AreParts index.now.cols }
-    ensures { OnOk result (map change_of changes.new
-        ≡ map change_of changes.old ++ moved_entry_changes number place table.now index.now old.now new.now) }
+    requires key { AreColumns placed.now.table.now.key }
+    requires parts { AreParts placed.now.index.now.cols }
+    ensures { OnOk result (map change_of changes.new ≡ map change_of changes.old ++ moved_entry_changes
+        placed.now.number placed.now.place placed.now.table.now placed.now.index.now old.now new.now) }
 {
+    let PlacedIndex {
+        number,
+        table,
+        place,
+        index,
+    } = *placed;
     if same_entry(table, index, old, new) {
         return Ok(());
     }
@@ -162,11 +164,8 @@ pub(crate) fn updates(
     old: &Row,
     new: &Row,
 ) -> Result<List<Change>, NoMem>
-    requires key { AreColumns table.now.key }
-    requires parts { All (λ index. AreParts index.cols) table.now.indexes }
-    requires few { length table.now.indexes ≤ 16 }
-    requires columns { length new.now ≤ 32 }
-    requires texts { All IsShort new.now }
+    requires indexes { AreIndexes table.now table.now.indexes }
+    requires row { IsCodable new.now }
     ensures { IfOk result (λ changes. map change_of changes
         ≡ (at, Some (stored_code table.now new.now))
         ∷ entry_changes number 1 table.now table.now.indexes old.now new.now) }
@@ -194,14 +193,18 @@ fn move_entries(
     new: &Row,
     changes: &mut List<Change>,
 ) -> Result<(), NoMem>
-    requires key { AreColumns table.now.key }
-    requires parts { All (λ index. AreParts index.cols) indexes.now }
-    requires few { length indexes.now ≤ 16 }
+    requires indexes { AreIndexes table.now indexes.now }
     ensures { OnOk result (map change_of changes.new
         ≡ map change_of changes.old ++ entry_changes number 1 table.now indexes.now old.now new.now) }
 {
     for (i, index) in indexes.iter().enumerate() {
-        move_entry(alloc, number, i as u8 + 1, table, index, old, new, changes)?;
+        let placed = PlacedIndex {
+            number,
+            table,
+            place: i as u8 + 1,
+            index,
+        };
+        move_entry(alloc, &placed, old, new, changes)?;
     }
     Ok(())
 }

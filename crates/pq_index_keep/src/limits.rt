@@ -8,7 +8,7 @@ ghost use Rattle.pq_index_keep.specs.Asking.{asks_room, room_test, room_tests};
 ghost use Rattle.pq_index_keep.specs.Effects.{stays};
 
 use crate::groups::row_group_ends;
-use crate::write::Scope;
+use crate::write::{NewRow, Scope};
 use pq_base::{List, NoMem, Row};
 use pq_row_keys::{null_at, same_cells};
 use pq_schema::{Limit, Table};
@@ -54,23 +54,19 @@ fn room_test(
 /// Puts the tests of the limits behind the others.
 pub(crate) fn ask_rooms(
     alloc: Global,
-    scope: &Scope,
-    old: &Option<Row>,
-    number: u8,
-    table: &Table,
+    new: &NewRow<'_>,
     limits: &[Limit],
-    row: &Row,
     tests: &mut List<Test>,
 ) -> Result<(), NoMem>
-    requires table { IsTable table.now }
+    requires table { IsTable new.now.table.now }
     requires columns { All (λ limit. AreColumns limit.cols) limits.now }
-    requires access { All (λ limit. IsSome (group_access table.now (set_of limit.cols))) limits.now }
-    ensures { OnOk result (tests.new
-        ≡ tests.old ++ room_tests scope.now old.now number table.now row.now limits.now) }
+    requires access { All (λ limit. IsSome (group_access new.now.table.now (set_of limit.cols))) limits.now }
+    ensures { OnOk result (tests.new ≡ tests.old ++ room_tests new.now.scope.now new.now.old.now new.now.number
+        new.now.table.now new.now.row.now limits.now) }
 {
     for limit in limits {
-        if asks_room(scope, old, row, limit) {
-            let test = room_test(alloc, number, table, row, limit)?;
+        if asks_room(new.scope, new.old, new.row, limit) {
+            let test = room_test(alloc, new.number, new.table, new.row, limit)?;
             tests.push(alloc, test)?;
         }
     }

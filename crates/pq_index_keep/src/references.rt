@@ -1,18 +1,18 @@
 //! Why a DELETE is refused by the rows that name its row.
-ghost use Rattle.std.specs.Prelude.{◌≡◌, ◌≤◌, ◌<◌, ◌+◌, List, All, length, position, None, IfOk, IfErr, IfSome, IfNone};
+ghost use Rattle.std.specs.Prelude.{◌≡◌, ◌≤◌, ◌<◌, List, All, length, IfOk, IfErr, IfSome};
 ghost use Rattle.pq_content.specs.Pairs.{Pair};
 ghost use Rattle.pq_content.specs.Tables.{Rows};
 ghost use Rattle.pq_index_keep.specs.Asking.{child_tests, child_refusal_at};
-ghost use Rattle.pq_index_keep.specs.Bounds.{referring_count, referring_behind};
+ghost use Rattle.pq_index_keep.specs.Bounds.{referring_count, children_behind};
 ghost use Rattle.pq_index_keep.specs.Effects.{referenced_refusal, child_refusal};
-ghost use Rattle.pq_store.specs.Breaks.{IsAnswered};
-ghost use Rattle.pq_store.specs.Rounds.{is_held};
-ghost use Rattle.pq_pending.specs.Calls.{Uses, Fails, seen, answers_of};
-ghost use Rattle.pq_calls.specs.World.{Affords, no_damage};
+ghost use Rattle.pq_pending.specs.Calls.{seen};
+ghost use Rattle.pq_calls.specs.World.{no_damage};
+ghost use Rattle.pq_index_keep.specs.NewRows.{NoneHolds};
 ghost use Rattle.pq_index_keep.specs.Promises.{HoldsRows};
 ghost use Rattle.pq_index_keep.specs.Refusals.{IsDeleteRefusal};
 ghost use Rattle.pq_index_keep.specs.Rounds.{test_rounds};
 ghost use Rattle.pq_index_keep.specs.Sound.{AreWritable, MayName};
+ghost use Rattle.pq_index_keep.specs.Spending.{CanSpend, Spends, Stops};
 
 use crate::bound::refers;
 use crate::children::{ask_children, naming_place};
@@ -70,17 +70,13 @@ pub(crate) fn child_refusal<S: Store<L>, L: Ledger>(
     requires sound { AreWritable tables.now }
     requires may { All (λ table. All (MayName table number key.now) table.foreign) tables.now }
     requires removers { calls.old.pending.now.removers ≤ 256 }
-    requires share { Affords calls.old.allowance.now (referring_count tables.now number)
-        (referring_behind calls.old.pending.now.removers tables.now number) }
-    ensures uses { Uses S.content S.faults calls.old calls.new (referring_count tables.now number)
-        (referring_behind calls.old.pending.now.removers tables.now number) }
-    ensures rounds { S.rounds calls.new.store.now ≤ S.rounds calls.old.store.now
-        + test_rounds calls.old.pending.now.changes (referring_count tables.now number) }
-    ensures cause { IfErr result (Fails no_damage S.content S.faults calls.old calls.new) }
-    ensures answered { IfErr result (IsAnswered (answers_of S.answers calls.old)) }
+    requires share { CanSpend calls.old (children_behind calls.old.pending.now.removers tables.now number) }
+    ensures spends { Spends S.Store calls.old calls.new
+        (children_behind calls.old.pending.now.removers tables.now number)
+        (test_rounds calls.old.pending.now.changes (referring_count tables.now number)) }
+    ensures stops { IfErr result (Stops S.Store no_damage calls.old calls.new) }
     ensures can { IfOk result (λ refusal. IfSome refusal (IsDeleteRefusal tables.now)) }
-    ensures passed { IfOk result (λ refusal. IfNone refusal (IfSome (seen S.content calls.old)
-        (λ c. position (is_held c) (child_tests number key.now 1 tables.now) ≡ None))) }
+    ensures passed { IfOk result (NoneHolds (seen S.content calls.old) (child_tests number key.now 1 tables.now)) }
     ensures answer { IfOk result (λ refusal. (rows : Rows) (others : List Pair)
         → HoldsRows (seen S.content calls.old) tables.now rows others
         → refusal ≡ child_refusal rows number key.now 1 tables.now) }

@@ -1,30 +1,23 @@
 //! Why a write is refused by the rows that are there.
-ghost use Rattle.std.specs.Prelude.{◌≡◌, ◌≤◌, ◌<◌, ◌+◌, ◌-◌, List, [], ◌∷◌, ◌++◌, All, length, position, None, IfOk, IfErr, IfSome, IfNone, IsSome};
-ghost use Rattle.std.specs.List.{sum_by};
-ghost use Rattle.pq_base.specs.Answers.{or_else};
-ghost use Rattle.pq_base.specs.Columns.{set_of};
+ghost use Rattle.std.specs.Prelude.{◌≡◌, ◌≤◌, ◌<◌, ◌+◌, ◌-◌, [], ◌∷◌, ◌++◌, All, length, None, IfOk, IfErr, IfSome};
 ghost use Rattle.pq_key_code.specs.KeyCode.{row_key};
-ghost use Rattle.pq_schema.specs.Sequences.{group_access};
 ghost use Rattle.pq_schema.specs.Sound.{IsTable, AreColumns};
-ghost use Rattle.pq_schema.specs.Tables.{table_at};
-ghost use Rattle.pq_schema.specs.declared.table.Table.{Table as Definition};
-ghost use Rattle.pq_content.specs.Pairs.{Pair};
-ghost use Rattle.pq_content.specs.Tables.{Rows, key_of};
+ghost use Rattle.pq_content.specs.Tables.{key_of};
 ghost use Rattle.pq_pending.specs.Tests.{place_among};
-ghost use Rattle.pq_index_keep.specs.Asking.{asks_parent, asks_room, parent_tests, row_tests, test_refusal, own_refusal, IsOwn};
-ghost use Rattle.pq_index_keep.specs.Bounds.{tested_foreign, tested_limits, tested_n_behind, tested_behind, tests};
-ghost use Rattle.pq_index_keep.specs.Effects.{no_parent, no_room, parent_refusal, room_refusal, insert_refusal};
-ghost use Rattle.pq_store.specs.Breaks.{IsAnswered};
-ghost use Rattle.pq_store.specs.Rounds.{is_held};
-ghost use Rattle.pq_pending.specs.Calls.{Uses, Fails, seen, answers_of};
-ghost use Rattle.pq_calls.specs.World.{Affords, no_damage};
-ghost use Rattle.pq_index_keep.specs.Promises.{HoldsRows, IsTested};
+ghost use Rattle.pq_pending.specs.Calls.{seen};
+ghost use Rattle.pq_calls.specs.World.{no_damage};
+ghost use Rattle.pq_index_keep.specs.Asking.{asks_parent, asks_room, parent_tests, row_tests, test_refusal, IsOwn};
+ghost use Rattle.pq_index_keep.specs.Bounds.{tested_limits, tested_behind, row_behind, with_more};
+ghost use Rattle.pq_index_keep.specs.Effects.{no_parent, no_room, insert_refusal};
+ghost use Rattle.pq_index_keep.specs.Needs.{AsksTests, HasTests};
+ghost use Rattle.pq_index_keep.specs.NewRows.{tests_of, refusal_of, refusal_behind, NoneHolds, IsRefusedAs};
 ghost use Rattle.pq_index_keep.specs.Refusals.{IsInsertRefusal, IsTestRefusal, IsAskedRefusal};
 ghost use Rattle.pq_index_keep.specs.Rounds.{test_rounds};
+ghost use Rattle.pq_index_keep.specs.Spending.{CanSpend, Spends, Stops};
 
 use crate::limits::{ask_rooms, room_place};
 use crate::parents::{ask_parents, parent_place};
-use crate::write::Scope;
+use crate::write::{NewRow, Scope};
 use pq_base::{Bytes, List, NoMem, Refusal, Row};
 use pq_pending::PendingCalls;
 use pq_schema::Table;
@@ -64,27 +57,23 @@ struct Asked {
 }
 
 /// The tests that are given, then those of the row's foreign keys, and then those of its limits.
-fn asked_tests(
-    alloc: Global,
-    own: List<Test>,
-    scope: &Scope,
-    old: &Option<Row>,
-    number: u8,
-    table: &Table,
-    row: &Row,
-) -> Result<Asked, NoMem>
-    requires table { IsTable table.now }
-    requires columns { All (λ f. AreColumns f.cols) table.now.foreign }
-    requires access { All (λ limit. IsSome (group_access table.now (set_of limit.cols))) table.now.limits }
-    ensures tests { IfOk result (λ made. made.tests ≡ own ++ row_tests scope.now old.now number table.now row.now) }
+fn asked_tests(alloc: Global, own: List<Test>, new: &NewRow<'_>) -> Result<Asked, NoMem>
+    requires table { AsksTests new.now.table.now }
+    ensures tests { IfOk result (λ made. made.tests ≡ own ++ tests_of new.now) }
     ensures parents { IfOk result (λ made. made.parents
-        ≡ length own + length (parent_tests scope.now row.now table.now.foreign)) }
+        ≡ length own + length (parent_tests new.now.scope.now new.now.row.now new.now.table.now.foreign)) }
 {
+    let NewRow {
+        scope,
+        table,
+        row,
+        ..
+    } = *new;
     let mut tests = own;
     ask_parents(alloc, scope, table.foreign.items(), row, &mut tests)?;
     let parents = tests.items().len();
     let limits = table.limits.items();
-    ask_rooms(alloc, scope, old, number, table, limits, row, &mut tests)?;
+    ask_rooms(alloc, new, limits, &mut tests)?;
     Ok(Asked { tests, parents })
 }
 
@@ -94,23 +83,27 @@ fn test_refusal(
     alloc: Global,
     own: usize,
     parents: usize,
-    scope: &Scope,
-    old: &Option<Row>,
-    table: &Table,
-    row: &Row,
+    new: &NewRow<'_>,
     at: usize,
 ) -> Result<Refusal, NoMem>
-    requires table { IsTable table.now }
-    requires columns { All (λ f. AreColumns f.cols) table.now.foreign }
-    requires few { length table.now.foreign ≤ 4 }
+    requires table { IsTable new.now.table.now }
+    requires columns { All (λ f. AreColumns f.cols) new.now.table.now.foreign }
+    requires few { length new.now.table.now.foreign ≤ 4 }
     requires own { own ≤ parents }
-    requires parent { own ≤ at → at < parents
-        → place_among (asks_parent scope.now row.now) table.now.foreign (at - own) < length table.now.foreign }
-    requires room { parents ≤ at
-        → place_among (asks_room scope.now old.now row.now) table.now.limits (at - parents) < length table.now.limits }
+    requires parent { own ≤ at → at < parents → place_among (asks_parent new.now.scope.now new.now.row.now)
+        new.now.table.now.foreign (at - own) < length new.now.table.now.foreign }
+    requires room { parents ≤ at → place_among (asks_room new.now.scope.now new.now.old.now new.now.row.now)
+        new.now.table.now.limits (at - parents) < length new.now.table.now.limits }
     ensures { IfOk result (λ refusal. refusal
-        ≡ test_refusal own parents scope.now old.now table.now row.now at) }
+        ≡ test_refusal own parents new.now.scope.now new.now.old.now new.now.table.now new.now.row.now at) }
 {
+    let NewRow {
+        scope,
+        old,
+        table,
+        row,
+        ..
+    } = *new;
     if at < own {
         return Ok(Refusal::DuplicateKey {
             table: table.name.copy(alloc)?,
@@ -129,50 +122,31 @@ fn test_refusal(
 fn first_refusal<S: Store<L>, L: Ledger>(
     alloc: Global,
     own: List<Test>,
-    scope: &Scope,
-    old: &Option<Row>,
-    number: u8,
-    table: &Table,
-    row: &Row,
+    new: &NewRow<'_>,
     calls: &mut PendingCalls<S, L>,
 ) -> Result<Option<Refusal>, Broke>
-    requires table { IsTable table.now }
-    requires columns { All (λ f. AreColumns f.cols) table.now.foreign }
-    requires few { length table.now.foreign ≤ 4 }
-    requires access { All (λ limit. IsSome (group_access table.now (set_of limit.cols))) table.now.limits }
-    requires some { All (λ limit. 1 ≤ limit.n) table.now.limits }
+    requires table { HasTests new.now.table.now }
     requires removers { calls.old.pending.now.removers ≤ 256 }
-    requires own { IsOwn number table.now row.now own }
-    requires share { Affords calls.old.allowance.now
-        (length own + (tested_foreign scope.now table.now.foreign + tested_limits scope.now table.now.limits))
-        (length own + (tested_foreign scope.now table.now.foreign
-        + sum_by (tested_n_behind calls.old.pending.now.removers scope.now) table.now.limits)) }
-    ensures uses { Uses S.content S.faults calls.old calls.new
-        (length own + (tested_foreign scope.now table.now.foreign + tested_limits scope.now table.now.limits))
-        (length own + (tested_foreign scope.now table.now.foreign
-        + sum_by (tested_n_behind calls.old.pending.now.removers scope.now) table.now.limits)) }
-    ensures rounds { S.rounds calls.new.store.now ≤ S.rounds calls.old.store.now
-        + test_rounds calls.old.pending.now.changes (tested_limits scope.now table.now.limits) }
-    ensures cause { IfErr result (Fails no_damage S.content S.faults calls.old calls.new) }
-    ensures answered { IfErr result (IsAnswered (answers_of S.answers calls.old)) }
-    ensures can { IfOk result (λ refusal. IfSome refusal (IsAskedRefusal own table.now)) }
-    ensures passed { IfOk result (λ refusal. IfNone refusal (IfSome (seen S.content calls.old)
-        (λ c. position (is_held c) (own ++ row_tests scope.now old.now number table.now row.now) ≡ None))) }
-    ensures answer { IfOk result (λ refusal. (tables : List Definition) (rows : Rows) (others : List Pair)
-        → HoldsRows (seen S.content calls.old) tables rows others → table.now ≡ table_at tables number →
-        IsTested tables table.now row.now → refusal
-        ≡ or_else (own_refusal tables rows number table.now row.now own)
-        (or_else (parent_refusal tables rows scope.now table.now row.now)
-        (room_refusal rows scope.now old.now number table.now row.now))) }
+    requires own { IsOwn new.now.number new.now.table.now new.now.row.now own }
+    requires share { CanSpend calls.old (with_more (length own)
+        (row_behind calls.old.pending.now.removers new.now.scope.now new.now.table.now)) }
+    ensures spends { Spends S.Store calls.old calls.new
+        (with_more (length own) (row_behind calls.old.pending.now.removers new.now.scope.now new.now.table.now))
+        (test_rounds calls.old.pending.now.changes (tested_limits new.now.scope.now new.now.table.now.limits)) }
+    ensures stops { IfErr result (Stops S.Store no_damage calls.old calls.new) }
+    ensures can { IfOk result (λ refusal. IfSome refusal (IsAskedRefusal own new.now.table.now)) }
+    ensures passed { IfOk result (NoneHolds (seen S.content calls.old) (own ++ tests_of new.now)) }
+    ensures answer { IfOk result (IsRefusedAs (seen S.content calls.old) new.now.number new.now.table.now
+        new.now.row.now (refusal_behind own new.now)) }
 {
     calls.pending.known();
     let first = own.items().len();
-    let asked = asked_tests(alloc, own, scope, old, number, table, row)?;
+    let asked = asked_tests(alloc, own, new)?;
     match calls.first_held(alloc, asked.tests.items())? {
         None => Ok(None),
         Some(at) => {
             let parents = asked.parents;
-            let refusal = test_refusal(alloc, first, parents, scope, old, table, row, at)?;
+            let refusal = test_refusal(alloc, first, parents, new, at)?;
             Ok(Some(refusal))
         }
     }
@@ -181,42 +155,24 @@ fn first_refusal<S: Store<L>, L: Ledger>(
 /// The refusal of the foreign keys, or else of the limits.
 pub(crate) fn tested_refusal<S: Store<L>, L: Ledger>(
     alloc: Global,
-    scope: &Scope,
-    old: &Option<Row>,
-    number: u8,
-    table: &Table,
-    row: &Row,
+    new: &NewRow<'_>,
     calls: &mut PendingCalls<S, L>,
 ) -> Result<Option<Refusal>, Broke>
-    requires table { IsTable table.now }
-    requires columns { All (λ f. AreColumns f.cols) table.now.foreign }
-    requires few { length table.now.foreign ≤ 4 }
-    requires access { All (λ limit. IsSome (group_access table.now (set_of limit.cols))) table.now.limits }
-    requires some { All (λ limit. 1 ≤ limit.n) table.now.limits }
+    requires table { HasTests new.now.table.now }
     requires removers { calls.old.pending.now.removers ≤ 256 }
-    requires share { Affords calls.old.allowance.now
-        (tested_foreign scope.now table.now.foreign + tested_limits scope.now table.now.limits)
-        (tested_foreign scope.now table.now.foreign
-        + sum_by (tested_n_behind calls.old.pending.now.removers scope.now) table.now.limits) }
-    ensures uses { Uses S.content S.faults calls.old calls.new
-        (tested_foreign scope.now table.now.foreign + tested_limits scope.now table.now.limits)
-        (tested_foreign scope.now table.now.foreign
-        + sum_by (tested_n_behind calls.old.pending.now.removers scope.now) table.now.limits) }
-    ensures rounds { S.rounds calls.new.store.now ≤ S.rounds calls.old.store.now
-        + test_rounds calls.old.pending.now.changes (tested_limits scope.now table.now.limits) }
-    ensures cause { IfErr result (Fails no_damage S.content S.faults calls.old calls.new) }
-    ensures answered { IfErr result (IsAnswered (answers_of S.answers calls.old)) }
-    ensures can { IfOk result (λ refusal. IfSome refusal (IsTestRefusal table.now)) }
-    ensures passed { IfOk result (λ refusal. IfNone refusal (IfSome (seen S.content calls.old)
-        (λ c. position (is_held c) (row_tests scope.now old.now number table.now row.now) ≡ None))) }
-    ensures answer { IfOk result (λ refusal. (tables : List Definition) (rows : Rows) (others : List Pair)
-        → HoldsRows (seen S.content calls.old) tables rows others → table.now ≡ table_at tables number →
-        IsTested tables table.now row.now → refusal
-        ≡ or_else (parent_refusal tables rows scope.now table.now row.now)
-        (room_refusal rows scope.now old.now number table.now row.now)) }
+    requires share { CanSpend calls.old
+        (row_behind calls.old.pending.now.removers new.now.scope.now new.now.table.now) }
+    ensures spends { Spends S.Store calls.old calls.new
+        (row_behind calls.old.pending.now.removers new.now.scope.now new.now.table.now)
+        (test_rounds calls.old.pending.now.changes (tested_limits new.now.scope.now new.now.table.now.limits)) }
+    ensures stops { IfErr result (Stops S.Store no_damage calls.old calls.new) }
+    ensures can { IfOk result (λ refusal. IfSome refusal (IsTestRefusal new.now.table.now)) }
+    ensures passed { IfOk result (NoneHolds (seen S.content calls.old) (tests_of new.now)) }
+    ensures answer { IfOk result (IsRefusedAs (seen S.content calls.old) new.now.number new.now.table.now
+        new.now.row.now (refusal_of new.now)) }
 {
     let own = List::new(alloc);
-    first_refusal(alloc, own, scope, old, number, table, row, calls)
+    first_refusal(alloc, own, new, calls)
 }
 
 /// The test of a row's own key.
@@ -238,29 +194,29 @@ pub(crate) fn insert_refusal<S: Store<L>, L: Ledger>(
     row: &Row,
     calls: &mut PendingCalls<S, L>,
 ) -> Result<Option<Refusal>, Broke>
-    requires table { IsTable table.now }
-    requires columns { All (λ f. AreColumns f.cols) table.now.foreign }
-    requires few { length table.now.foreign ≤ 4 }
-    requires access { All (λ limit. IsSome (group_access table.now (set_of limit.cols))) table.now.limits }
+    requires table { HasTests table.now }
     requires at { at.now ≡ row_key number (key_of table.now row.now) }
-    requires some { All (λ limit. 1 ≤ limit.n) table.now.limits }
     requires removers { calls.old.pending.now.removers ≤ 256 }
-    requires share { Affords calls.old.allowance.now (tests Scope.All table.now).ops
-        (tested_behind calls.old.pending.now.removers Scope.All table.now).entries }
-    ensures uses { Uses S.content S.faults calls.old calls.new (tests Scope.All table.now).ops
-        (tested_behind calls.old.pending.now.removers Scope.All table.now).entries }
-    ensures rounds { S.rounds calls.new.store.now ≤ S.rounds calls.old.store.now
-        + test_rounds calls.old.pending.now.changes (tested_limits Scope.All table.now.limits) }
-    ensures cause { IfErr result (Fails no_damage S.content S.faults calls.old calls.new) }
-    ensures answered { IfErr result (IsAnswered (answers_of S.answers calls.old)) }
+    requires share { CanSpend calls.old (tested_behind calls.old.pending.now.removers Scope.All table.now) }
+    ensures spends { Spends S.Store calls.old calls.new
+        (tested_behind calls.old.pending.now.removers Scope.All table.now)
+        (test_rounds calls.old.pending.now.changes (tested_limits Scope.All table.now.limits)) }
+    ensures stops { IfErr result (Stops S.Store no_damage calls.old calls.new) }
     ensures can { IfOk result (λ refusal. IfSome refusal (IsInsertRefusal table.now)) }
-    ensures passed { IfOk result (λ refusal. IfNone refusal (IfSome (seen S.content calls.old)
-        (λ c. position (is_held c) (Test.Has (row_key number (key_of table.now row.now))
-        ∷ row_tests Scope.All None number table.now row.now) ≡ None))) }
-    ensures answer { IfOk result (λ refusal. (tables : List Definition) (rows : Rows) (others : List Pair)
-        → HoldsRows (seen S.content calls.old) tables rows others → table.now ≡ table_at tables number →
-        IsTested tables table.now row.now → refusal ≡ insert_refusal tables rows number row.now) }
+    ensures passed { IfOk result (NoneHolds (seen S.content calls.old)
+        (Test.Has (row_key number (key_of table.now row.now))
+        ∷ row_tests Scope.All None number table.now row.now)) }
+    ensures answer { IfOk result (IsRefusedAs (seen S.content calls.old) number table.now row.now
+        (λ tables rows. insert_refusal tables rows number row.now)) }
 {
     let own = own_tests(alloc, at)?;
-    first_refusal(alloc, own, &Scope::All, &None, number, table, row, calls)
+    let (scope, old) = (Scope::All, None);
+    let new = NewRow {
+        scope: &scope,
+        old: &old,
+        number,
+        table,
+        row,
+    };
+    first_refusal(alloc, own, &new, calls)
 }

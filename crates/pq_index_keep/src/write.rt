@@ -4,6 +4,7 @@ ghost use Rattle.pq_index_keep.specs.Tested.{touches, scope_of};
 
 use pq_base::{ColSet, List, Op, Row, Value};
 use pq_def_read::Setting;
+use pq_schema::Table;
 
 /// A column and what it is set to.
 #[derive(Drop)]
@@ -70,6 +71,16 @@ impl Drop for Write {
 pub enum Scope {
     All,
     Columns(ColSet),
+}
+
+/// A row that is to stand in its table: the columns that get values, and the row that it comes in the place of.
+#[derive(Clone, Copy)]
+pub(crate) struct NewRow<'a> {
+    pub scope: &'a Scope,
+    pub old: &'a Option<Row>,
+    pub number: u8,
+    pub table: &'a Table,
+    pub row: &'a Row,
 }
 
 fn has_any(set: ColSet, cols: &[u8]) -> bool

@@ -5,16 +5,17 @@ ghost use Rattle.pq_content.specs.Standing.{write_ops};
 ghost use Rattle.pq_content.specs.Tables.{Rows};
 ghost use Rattle.pq_index_keep.specs.Bounds.{most_changes, write_tests, write_bound, tests_behind};
 ghost use Rattle.pq_store.specs.Breaks.{IsUndamaged, IsAnswered};
-ghost use Rattle.pq_pending.specs.Calls.{Uses, Fails, seen, answers_of};
+ghost use Rattle.pq_pending.specs.Calls.{seen};
 ghost use Rattle.pq_pending.specs.Pending.{seen_content, seen_answers};
 ghost use Rattle.pq_calls.specs.Evidence.{IsNoRow};
 ghost use Rattle.pq_calls.specs.World.{world, Affords, Reads, Explains, where_told};
-ghost use Rattle.pq_index_keep.specs.Promises.{HoldsRows, Plans, IsPlannedWithin, ChangesFrom, ChangesOwn, IsShortWithin, RemovesFew, IsReadFor, IsAllowed, FitsItsTable, IsNewFor};
+ghost use Rattle.pq_index_keep.specs.Promises.{HoldsRows, Plans, IsPlannedWithin, ChangesFrom, ChangesOwn, IsShortWithin, RemovesFew, IsReadFor, IsAllowed, FitsItsTable, IsNewFor, IsPlannedWrite};
 ghost use Rattle.pq_index_keep.specs.Refusals.{RefusesAs};
 ghost use Rattle.pq_index_keep.specs.Rounds.{write_rounds, alone_rounds};
 ghost use Rattle.pq_index_keep.specs.Sound.{AreWritable, IsWrite};
+ghost use Rattle.pq_index_keep.specs.Spending.{CanSpend, Spends, Stops};
 
-use crate::plan::{Planned, PlannedWrite, plan_delete, plan_insert};
+use crate::plan::{KeyedRow, Planned, PlannedWrite, plan_delete, plan_insert};
 use crate::update::plan_update;
 use crate::write::Write;
 use pq_pending::{Pending, PendingCalls};
@@ -33,31 +34,13 @@ fn plan_by<S: Store<L>, L: Ledger>(
     requires sound { AreWritable catalog.now.tables }
     requires write { IsWrite catalog.now.tables write.now }
     requires removers { calls.old.pending.now.removers ≤ 256 }
-    requires share { Affords calls.old.allowance.now
-        (tests_behind calls.old.pending.now.removers catalog.now.tables write.now).ops
-        (tests_behind calls.old.pending.now.removers catalog.now.tables write.now).entries }
-    ensures uses { Uses S.content S.faults calls.old calls.new
-        (tests_behind calls.old.pending.now.removers catalog.now.tables write.now).ops
-        (tests_behind calls.old.pending.now.removers catalog.now.tables write.now).entries }
-    ensures rounds { S.rounds calls.new.store.now ≤ S.rounds calls.old.store.now
-        + write_rounds calls.old.pending.now.changes catalog.now.tables write.now }
-    ensures cause { IfErr result (Fails (where_told (IsNoRow catalog.now.tables)) S.content S.faults calls.old
-        calls.new) }
-    ensures answered { IfErr result (IsAnswered (answers_of S.answers calls.old)) }
-    ensures plan { IfOk result (λ made. IsPlannedWithin (most_changes catalog.now.tables write.now) made.planned) }
-    ensures own { IfOk result (λ made. ChangesFrom catalog.now.tables write.now made.old made.planned) }
-    ensures short { IfOk result (λ made. IsShortWithin made.planned) }
-    ensures thin { IfOk result (λ made. RemovesFew write.now made.planned) }
-    ensures can { IfOk result (λ made. RefusesAs catalog.now.tables write.now made.planned) }
-    ensures passed { IfOk result (λ made. IsAllowed catalog.now.tables write.now made.old (seen S.content calls.old)
-        made.planned) }
-    ensures answer { IfOk result (λ made. (rows : Rows) (others : List Pair) →
-        HoldsRows (seen S.content calls.old) catalog.now.tables rows others
-        → Plans catalog.now.tables rows others write.now made.planned) }
-    ensures read { IfOk result (λ made. IfSome (seen S.content calls.old)
-        (λ c. IsReadFor catalog.now.tables write.now c made.old)) }
-    ensures fits { IfOk result (λ made. FitsItsTable catalog.now.tables write.now made.old) }
-    ensures new { IfOk result (λ made. IsNewFor catalog.now.tables write.now made.old made.new) }
+    requires share { CanSpend calls.old
+        (tests_behind calls.old.pending.now.removers catalog.now.tables write.now) }
+    ensures spends { Spends S.Store calls.old calls.new
+        (tests_behind calls.old.pending.now.removers catalog.now.tables write.now)
+        (write_rounds calls.old.pending.now.changes catalog.now.tables write.now) }
+    ensures stops { IfErr result (Stops S.Store (where_told (IsNoRow catalog.now.tables)) calls.old calls.new) }
+    ensures plan { IfOk result (IsPlannedWrite catalog.now.tables (seen S.content calls.old) write.now) }
 {
     match write {
         Write::Insert { table, row } => {
@@ -76,16 +59,20 @@ fn plan_by<S: Store<L>, L: Ledger>(
             sets,
             conds,
         } => {
-            match plan_update(alloc, catalog, *table, key, sets, conds, calls) {
-                Err(error) => Err(error),
-                Ok(seen) => Ok(seen),
-            }
+            let keyed = KeyedRow {
+                catalog,
+                number: *table,
+                key,
+            };
+            plan_update(alloc, &keyed, sets, conds, calls)
         }
         Write::Delete { table, key, conds } => {
-            match plan_delete(alloc, catalog, *table, key, conds, calls) {
-                Err(error) => Err(error),
-                Ok(seen) => Ok(seen),
-            }
+            let keyed = KeyedRow {
+                catalog,
+                number: *table,
+                key,
+            };
+            plan_delete(alloc, &keyed, conds, calls)
         }
     }
 }
@@ -147,7 +134,10 @@ pub fn plan_with_rows<S: Store<L>, L: Ledger>(
         allowance,
         meter,
     };
-    plan_by(alloc, catalog, write, &mut calls)
+    match plan_by(alloc, catalog, write, &mut calls) {
+        Err(error) => Err(error),
+        Ok(seen) => Ok(seen),
+    }
 }
 
 /// The changes that the write makes where none are pending, or its first refusal. It changes nothing in the store, and

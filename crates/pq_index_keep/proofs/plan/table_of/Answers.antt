@@ -11,12 +11,10 @@ returns c =
     let is_table = table_made tables w.number c.table.result.now w.made in
     record {
       table = c.table.ensures;
-      is_table = is_table;
-      columns = foreign_columns tables c.table.result.now w;
-      few = w.made.few_foreign;
-      access = w.made.limit_groups;
-      some_rows = λ k limit less. (w.made.limits k limit less).from_one;
-      key = is_table.key;
-      parts = is_table.indexes;
-      few_indexes = w.made.few_indexes;
+      tests = record {
+        asks = record { is_table = is_table; columns = foreign_columns tables c.table.result.now w; access = w.made.limit_groups };
+        few = w.made.few_foreign;
+        some_rows = λ k limit less. (w.made.limits k limit less).from_one;
+      };
+      indexes = record { key = is_table.key; parts = is_table.indexes; few = w.made.few_indexes };
     }

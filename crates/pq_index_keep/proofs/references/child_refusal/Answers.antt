@@ -3,11 +3,10 @@ use Rattle.std.specs.Prelude.{option_map}
 use Rattle.pq_base.specs.declared.refusal.Refusal.{Refusal}
 use Rattle.pq_store.specs.declared.store.Test.{Test}
 use Rattle.pq_pending.specs.Calls.{seen}
-use Rattle.pq_pending.proofs.Steps.{uses_within}
 use Rattle.pq_index_keep.specs.Asking.{child_tests, child_refusal_at}
 use Rattle.pq_index_keep.specs.Refusals.{IsDeleteRefusal}
 use Rattle.pq_index_keep.proofs.Asked.{none_held}
-use Rattle.pq_index_keep.proofs.Referring.{child_told, child_can, child_within, children_cheap, children_countable, children_rounds}
+use Rattle.pq_index_keep.proofs.Referring.{child_told, child_can, child_within, children_cheap, children_countable, children_spend}
 use Rattle.pq_index_keep.proofs.references.child_refusal.Goals as goal
 
 pub first_held-requires-clause-few : goal.first_held-requires-clause-few
@@ -23,57 +22,29 @@ first_held-requires-clause-share g c =
     let cheap = children_cheap c.args.calls.now.pending.now.changes c.args.calls.now.pending.now.removers c.known.ensures.thin c.args.number c.args.key.now c.args.tables.now c.items.result.now are in
     record { ops_left = omega (arith, cheap.few, c.requires.share.ops_left); entries_left = omega (arith, cheap.short, c.requires.share.entries_left) }
 
-pub returns-in_err-first_held-clause-uses : goal.returns-in_err-first_held-clause-uses
-returns-in_err-first_held-clause-uses g c =
+pub returns-in_err-first_held-clause-spends : goal.returns-in_err-first_held-clause-spends
+returns-in_err-first_held-clause-spends g c =
     let are : c.items.result.now ≡ child_tests c.args.number c.args.key.now 1 c.args.tables.now =
     c.items.ensures ∙ c.in_ok-ask_children.ensures ∙ ap (λ (ts : List Test). ts ++ child_tests c.args.number c.args.key.now 1 c.args.tables.now) c.new-tests.ensures in
-    let cheap = children_cheap c.args.calls.now.pending.now.changes c.args.calls.now.pending.now.removers c.known.ensures.thin c.args.number c.args.key.now c.args.tables.now c.items.result.now are in
-    uses_within g.S.Store.content g.S.Store.faults c.args.calls.now c.first_held.new.self _ _ _ _ c.first_held.ensures.uses cheap.few cheap.short
+    children_spend g.S.Store c.args.calls.now c.first_held.new.self c.args.number c.args.key.now c.args.tables.now c.items.result.now are c.known.ensures.thin c.first_held.ensures.uses c.first_held.ensures.rounds
 
-pub returns-in-None-clause-uses : goal.returns-in-None-clause-uses
-returns-in-None-clause-uses g c =
+pub returns-in-None-clause-spends : goal.returns-in-None-clause-spends
+returns-in-None-clause-spends g c =
     let are : c.items.result.now ≡ child_tests c.args.number c.args.key.now 1 c.args.tables.now =
     c.items.ensures ∙ c.in_ok-ask_children.ensures ∙ ap (λ (ts : List Test). ts ++ child_tests c.args.number c.args.key.now 1 c.args.tables.now) c.new-tests.ensures in
-    let cheap = children_cheap c.args.calls.now.pending.now.changes c.args.calls.now.pending.now.removers c.known.ensures.thin c.args.number c.args.key.now c.args.tables.now c.items.result.now are in
-    uses_within g.S.Store.content g.S.Store.faults c.args.calls.now c.first_held.new.self _ _ _ _ c.first_held.ensures.uses cheap.few cheap.short
+    children_spend g.S.Store c.args.calls.now c.first_held.new.self c.args.number c.args.key.now c.args.tables.now c.items.result.now are c.known.ensures.thin c.first_held.ensures.uses c.first_held.ensures.rounds
 
-pub returns-in_err-child_refusal_at-in-Some-clause-uses : goal.returns-in_err-child_refusal_at-in-Some-clause-uses
-returns-in_err-child_refusal_at-in-Some-clause-uses g c =
+pub returns-in_err-child_refusal_at-in-Some-clause-spends : goal.returns-in_err-child_refusal_at-in-Some-clause-spends
+returns-in_err-child_refusal_at-in-Some-clause-spends g c =
     let are : c.items.result.now ≡ child_tests c.args.number c.args.key.now 1 c.args.tables.now =
     c.items.ensures ∙ c.in_ok-ask_children.ensures ∙ ap (λ (ts : List Test). ts ++ child_tests c.args.number c.args.key.now 1 c.args.tables.now) c.new-tests.ensures in
-    let cheap = children_cheap c.args.calls.now.pending.now.changes c.args.calls.now.pending.now.removers c.known.ensures.thin c.args.number c.args.key.now c.args.tables.now c.items.result.now are in
-    uses_within g.S.Store.content g.S.Store.faults c.args.calls.now c.first_held.new.self _ _ _ _ c.first_held.ensures.uses cheap.few cheap.short
+    children_spend g.S.Store c.args.calls.now c.first_held.new.self c.args.number c.args.key.now c.args.tables.now c.items.result.now are c.known.ensures.thin c.first_held.ensures.uses c.first_held.ensures.rounds
 
-pub returns-clause-uses : goal.returns-clause-uses
-returns-clause-uses g c =
+pub returns-clause-spends : goal.returns-clause-spends
+returns-clause-spends g c =
     let are : c.items.result.now ≡ child_tests c.args.number c.args.key.now 1 c.args.tables.now =
     c.items.ensures ∙ c.in_ok-ask_children.ensures ∙ ap (λ (ts : List Test). ts ++ child_tests c.args.number c.args.key.now 1 c.args.tables.now) c.new-tests.ensures in
-    let cheap = children_cheap c.args.calls.now.pending.now.changes c.args.calls.now.pending.now.removers c.known.ensures.thin c.args.number c.args.key.now c.args.tables.now c.items.result.now are in
-    uses_within g.S.Store.content g.S.Store.faults c.args.calls.now c.first_held.new.self _ _ _ _ c.first_held.ensures.uses cheap.few cheap.short
-
-pub returns-in_err-first_held-clause-rounds : goal.returns-in_err-first_held-clause-rounds
-returns-in_err-first_held-clause-rounds g c =
-    let are : c.items.result.now ≡ child_tests c.args.number c.args.key.now 1 c.args.tables.now =
-    c.items.ensures ∙ c.in_ok-ask_children.ensures ∙ ap (λ (ts : List Test). ts ++ child_tests c.args.number c.args.key.now 1 c.args.tables.now) c.new-tests.ensures in
-    omega (arith, c.first_held.ensures.rounds, children_rounds c.args.calls.now.pending.now.changes c.args.calls.now.pending.now.removers c.known.ensures.thin c.args.number c.args.key.now c.args.tables.now c.items.result.now are)
-
-pub returns-in-None-clause-rounds : goal.returns-in-None-clause-rounds
-returns-in-None-clause-rounds g c =
-    let are : c.items.result.now ≡ child_tests c.args.number c.args.key.now 1 c.args.tables.now =
-    c.items.ensures ∙ c.in_ok-ask_children.ensures ∙ ap (λ (ts : List Test). ts ++ child_tests c.args.number c.args.key.now 1 c.args.tables.now) c.new-tests.ensures in
-    omega (arith, c.first_held.ensures.rounds, children_rounds c.args.calls.now.pending.now.changes c.args.calls.now.pending.now.removers c.known.ensures.thin c.args.number c.args.key.now c.args.tables.now c.items.result.now are)
-
-pub returns-in_err-child_refusal_at-in-Some-clause-rounds : goal.returns-in_err-child_refusal_at-in-Some-clause-rounds
-returns-in_err-child_refusal_at-in-Some-clause-rounds g c =
-    let are : c.items.result.now ≡ child_tests c.args.number c.args.key.now 1 c.args.tables.now =
-    c.items.ensures ∙ c.in_ok-ask_children.ensures ∙ ap (λ (ts : List Test). ts ++ child_tests c.args.number c.args.key.now 1 c.args.tables.now) c.new-tests.ensures in
-    omega (arith, c.first_held.ensures.rounds, children_rounds c.args.calls.now.pending.now.changes c.args.calls.now.pending.now.removers c.known.ensures.thin c.args.number c.args.key.now c.args.tables.now c.items.result.now are)
-
-pub returns-clause-rounds : goal.returns-clause-rounds
-returns-clause-rounds g c =
-    let are : c.items.result.now ≡ child_tests c.args.number c.args.key.now 1 c.args.tables.now =
-    c.items.ensures ∙ c.in_ok-ask_children.ensures ∙ ap (λ (ts : List Test). ts ++ child_tests c.args.number c.args.key.now 1 c.args.tables.now) c.new-tests.ensures in
-    omega (arith, c.first_held.ensures.rounds, children_rounds c.args.calls.now.pending.now.changes c.args.calls.now.pending.now.removers c.known.ensures.thin c.args.number c.args.key.now c.args.tables.now c.items.result.now are)
+    children_spend g.S.Store c.args.calls.now c.first_held.new.self c.args.number c.args.key.now c.args.tables.now c.items.result.now are c.known.ensures.thin c.first_held.ensures.uses c.first_held.ensures.rounds
 
 pub returns-in-None-clause-answer : goal.returns-in-None-clause-answer
 returns-in-None-clause-answer g c = λ rows others s.

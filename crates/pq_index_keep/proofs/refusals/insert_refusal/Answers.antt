@@ -1,11 +1,12 @@
-use Rattle.std.proofs.Common.{◌≡◌, ◌∙◌, ◌++◌, ℕ, List, [], ◌∷◌, None, length, position, refl, sym, ap, subst, arith}
-use Rattle.std.specs.Prelude.{IfOk, IfSome, IfNone}
+use Rattle.std.proofs.Common.{◌≡◌, ◌∙◌, ◌++◌, ℕ, List, [], ◌∷◌, None, length, refl, sym, ap, subst, arith}
+use Rattle.std.specs.Prelude.{IfOk, IfSome}
 use Rattle.std.proofs.lemmas.Result.{IfOk-weaker}
-use Rattle.pq_store.specs.Rounds.{is_held}
 use Rattle.pq_store.specs.declared.store.Test.{Test}
 use Rattle.pq_store.specs.declared.store.Test.TheVariants.{Has}
 use Rattle.pq_pending.specs.Calls.{seen}
-use Rattle.pq_pending.proofs.Steps.{uses_within}
+use Rattle.pq_index_keep.specs.Bounds.{tested_behind}
+use Rattle.pq_index_keep.specs.NewRows.{NoneHolds}
+use Rattle.pq_index_keep.proofs.Spending.{spends_within}
 use Rattle.pq_index_keep.specs.Asking.{IsOwn, row_tests}
 use Rattle.pq_index_keep.specs.Refusals.{IsAskedRefusal}
 use Rattle.pq_index_keep.specs.declared.write.Scope.TheVariants.{All}
@@ -20,10 +21,10 @@ first_refusal-requires-clause-share g c =
     let one : length c.in_ok-own.own ≡ 1 = ap length c.in_ok-own.ensures in
     record { ops_left = omega (arith, one, c.requires.share.ops_left); entries_left = omega (arith, one, c.requires.share.entries_left) }
 
-pub returns-clause-uses : goal.returns-clause-uses
-returns-clause-uses g c =
+pub returns-clause-spends : goal.returns-clause-spends
+returns-clause-spends g c =
     let one : length c.in_ok-own.own ≡ 1 = ap length c.in_ok-own.ensures in
-    uses_within g.S.Store.content g.S.Store.faults c.args.calls.now c.first_refusal.new.calls _ _ _ _ c.first_refusal.ensures.uses (omega (arith, one)) (omega (arith, one))
+    spends_within g.S.Store c.args.calls.now c.first_refusal.new.calls _ (tested_behind c.args.calls.now.pending.now.removers All c.args.table.now) _ c.first_refusal.ensures.spends (omega (arith, one)) (omega (arith, one))
 
 pub returns-clause-can : goal.returns-clause-can
 returns-clause-can g c =
@@ -36,5 +37,5 @@ returns-clause-answer g c =
 
 pub returns-clause-passed : goal.returns-clause-passed
 returns-clause-passed g c =
-    subst (λ (own : List Test). IfOk c.first_refusal.result (λ refusal. IfNone refusal (IfSome (seen g.S.Store.content c.args.calls.now) (λ content. position (is_held content) (own ++ row_tests All None c.args.number c.args.table.now c.args.row.now) ≡ None))))
+    subst (λ (own : List Test). IfOk c.first_refusal.result (NoneHolds (seen g.S.Store.content c.args.calls.now) (own ++ row_tests All None c.args.number c.args.table.now c.args.row.now)))
     (c.in_ok-own.ensures ∙ ap (λ (at : List ℕ). Has at ∷ []) c.requires.at) c.first_refusal.ensures.passed
