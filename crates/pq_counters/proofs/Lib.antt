@@ -7,6 +7,7 @@ pub mod Loop
 pub mod Moving
 pub mod Own
 pub mod Planning
+pub mod Rows
 pub mod Showing
 pub mod Short
 pub mod Small

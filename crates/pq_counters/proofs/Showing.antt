@@ -23,7 +23,7 @@ use Rattle.pq_store.specs.declared.damage.Broke.TheVariants.{Failed, NoMem, Dama
 use Rattle.pq_store.specs.declared.damage.Damage.{Damage}
 use Rattle.pq_calls.specs.Evidence.{IsRead, IsNoRow}
 use Rattle.pq_calls.specs.World.{World, Explains, where_told}
-use Rattle.pq_calls.proofs.Steps.{explained_as}
+use Rattle.pq_calls.proofs.Steps.{explained_as, explained_undamaged}
 use Rattle.pq_index_keep.proofs.Deleting.{told_row, undamaged}
 use Rattle.pq_index_keep.proofs.Narrow.{valid_writable}
 use Rattle.pq_tallies.specs.Counters.{tally, most_count, counter_key, count_code, stored_count, all_pairs, counter_pairs, HoldsCounted}
@@ -33,6 +33,7 @@ use Rattle.pq_tallies.proofs.Defined.{schema_counters, numbered_in}
 use Rattle.pq_tallies.proofs.Effects.{one_in, tally_goes}
 use Rattle.pq_tallies.proofs.Told.{get_group, holds_rows}
 use Rattle.pq_counters.specs.Evidence.{IsNoCountAt, IsNoCount, IsStoredAt, IsNoGroup, ShowsCounted}
+use Rattle.pq_counters.specs.Planning.{IsReadBy, IsUndamagedOver}
 use Rattle.pq_counters.specs.Steps.{AreOfTable, SpoilsLeft, SpoilsFrom, SpoilsTo, SpoilsMoves}
 
 -- ---- groups of rows
@@ -114,12 +115,6 @@ module _ (t : ℕ) (c : NumberedCounter) (told : Option Content) (damage : Damag
         | true ↦ λ is h. to_moved old new (eqb-true t c.table is) h
         | false ↦ λ _ h. absurd h
       ] refl h
-
--- the key by which the row that goes was read, where one goes
-pub record IsReadBy (tables : List Table) (told : Option Content) (t : ℕ) (old : Option (List Value)) : Type 0 where
-  pub key : List Value
-  pub kinds : AllOfKinds (key_types (table_at tables t)) key
-  pub stored : IfSome old (λ row. IfSome told (IsStoredAt (table_at tables t) t key row))
 
 -- values of a group are of the columns' kinds
 row_kinds : (tables : List Table) (c : NumberedCounter) (row group : List Value) → AllFit (types_of (table_at tables c.table)) row → group_in c row ≡ Some group → AllOfKinds (group_types tables c) group
@@ -266,6 +261,10 @@ module _ (told : Option Content) (schema : Schema) (rows : Rows) (others : List 
 
   pub none_counted : (c : NumberedCounter) → In c cs → (damage : Damage) → where_told (IsNoCount schema.tables c) told damage → ⊥
   none_counted c i damage h = no_count_shown damage c i (subst (λ (o : Option Content). where_told (IsNoCount schema.tables c) o damage) s.is h)
+
+-- so what gives up over one that stands tells no damage
+pub undamaged_over : (schema : Schema) → IsValid schema → (a b : World) (error : Broke) → Explains (where_told (ShowsCounted schema)) a b error → IsUndamagedOver schema a.told error
+undamaged_over schema valid a b error why = λ rows others s. explained_undamaged (where_told (ShowsCounted schema)) a b error (none_told a.told schema rows others s valid) why
 
 -- ---- a read of one group
 

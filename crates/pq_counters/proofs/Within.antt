@@ -1,12 +1,10 @@
 -- A call that uses no more than its caller may, and what a plan of rows promises of a write.
-use Rattle.std.proofs.Common.{◌≡◌, ℕ, ◌≤◌, List, Option, Result, Ok, arith}
-use Rattle.std.specs.Prelude.{IfOk, IfErr}
-use Rattle.std.proofs.lemmas.Result.{IfOk-weaker, IfErr-weaker}
+use Rattle.std.proofs.Common.{ℕ, ◌≤◌, List, Option, Result, arith}
+use Rattle.std.specs.Prelude.{IfErr}
+use Rattle.std.proofs.lemmas.Result.{IfErr-weaker}
 use Rattle.pq_base.specs.declared.value.Value.{Value}
-use Rattle.pq_content.specs.Pairs.{Pair}
-use Rattle.pq_content.specs.Tables.{Rows, IsTableNumber}
+use Rattle.pq_content.specs.Tables.{IsTableNumber}
 use Rattle.pq_schema.specs.Schema.{Schema}
-use Rattle.pq_schema.specs.Valid.{IsValid}
 use Rattle.pq_store.specs.Content.{Content}
 use Rattle.pq_store.specs.Counts.{AllowedCounts}
 use Rattle.pq_store.specs.declared.damage.Broke.{Broke}
@@ -14,20 +12,16 @@ use Rattle.pq_pending.specs.Calls.{Uses}
 use Rattle.pq_calls.specs.World.{World, Affords, Explains, where_told}
 use Rattle.pq_pending.specs.declared.calls.PendingCalls.{PendingCalls}
 use Rattle.pq_pending.proofs.Steps.{uses_within}
-use Rattle.pq_index_keep.specs.Effects.{effect}
-use Rattle.pq_index_keep.specs.Sound.{IsWrite}
 use Rattle.pq_index_keep.specs.declared.plan.Planned.{Planned}
 use Rattle.pq_index_keep.specs.declared.plan.Planned.TheVariants.{Changes, Refused}
 use Rattle.pq_index_keep.specs.declared.write.Write.{Write}
-use Rattle.pq_tallies.specs.Counters.{HoldsCounted}
-use Rattle.pq_tallies.specs.Defined.{NumberedCounter, counters_in}
-use Rattle.pq_tallies.specs.Writes.{written_table, old_row, new_row}
+use Rattle.pq_tallies.specs.Defined.{NumberedCounter}
 use Rattle.pq_counters.specs.Bounds.{all_moves, counter_reads}
 use Rattle.pq_counters.specs.Evidence.{ShowsCounted}
-use Rattle.pq_counters.specs.Promises.{Counts, IsCountedWithin}
-use Rattle.pq_counters.specs.Steps.{AreOfTable, PlansMoves, SpoilsMoves}
-use Rattle.pq_counters.proofs.Counting.{write_counts}
-use Rattle.pq_counters.proofs.Showing.{IsReadBy, moves_explain}
+use Rattle.pq_counters.specs.Planning.{IsReadBy}
+use Rattle.pq_counters.specs.Promises.{IsCountedWithin}
+use Rattle.pq_counters.specs.Steps.{AreOfTable, SpoilsMoves}
+use Rattle.pq_counters.proofs.Showing.{moves_explain}
 
 pub affords_less : (allowed : AllowedCounts) (n m : ℕ) → n ≤ m → Affords allowed m m → Affords allowed n n
 affords_less allowed n m le left = let ops = left.ops_left in let entries = left.entries_left in record { ops_left = omega arith; entries_left = omega arith }
@@ -39,22 +33,10 @@ uses_more content faults a b n m le u = uses_within content faults a b n n m m u
 pub moves_read : (counters : List NumberedCounter) (w : Write) → all_moves counters w ≤ counter_reads counters w
 moves_read counters w = omega arith
 
-one_more : (n m : ℕ) → n ≤ m → (planned : Planned) → IsCountedWithin n planned → IsCountedWithin m planned
-one_more n m le (Changes changes) h = let few = h.few in record { few = omega arith; each = h.each }
-one_more n m le (Refused why) h = tt
+pub counted_more : (n m : ℕ) → n ≤ m → (planned : Planned) → IsCountedWithin n planned → IsCountedWithin m planned
+counted_more n m le (Changes changes) h = let few = h.few in record { few = omega arith; each = h.each }
+counted_more n m le (Refused why) h = tt
 
-pub counted_more : {E : Type 0} (n m : ℕ) → n ≤ m → (result : Result Planned E) → IfOk result (IsCountedWithin n) → IfOk result (IsCountedWithin m)
-counted_more n m le result h = IfOk-weaker result (IsCountedWithin n) (IsCountedWithin m) (one_more n m le) h
-
--- what is planned for the rows of a write is its plan
-pub planned : {E : Type 0} (told : Option Content) (schema : Schema) (w : Write) (old new : Option (List Value)) (result : Result Planned E) → IsValid schema → IsWrite schema.tables w → AreOfTable schema.tables (written_table w) old new
-    → IfOk result (λ planned. (rows : Rows) (others : List Pair) → HoldsCounted told schema rows others → AreOfTable schema.tables (written_table w) old new → PlansMoves (counters_in schema) rows (written_table w) old new planned)
-    → IfOk result (λ planned. (rows made : Rows) (others : List Pair) → HoldsCounted told schema rows others → old_row schema.tables rows w ≡ old → new_row schema.tables rows w ≡ new → effect schema.tables rows w ≡ Ok made → Counts schema rows others w made planned)
-planned told schema w old new result v may fits h =
-    IfOk-weaker result (λ planned. (rows : Rows) (others : List Pair) → HoldsCounted told schema rows others → AreOfTable schema.tables (written_table w) old new → PlansMoves (counters_in schema) rows (written_table w) old new planned)
-    (λ planned. (rows made : Rows) (others : List Pair) → HoldsCounted told schema rows others → old_row schema.tables rows w ≡ old → new_row schema.tables rows w ≡ new → effect schema.tables rows w ≡ Ok made → Counts schema rows others w made planned)
-    (λ planned plans rows made others s was comes is. write_counts told schema rows made others w v may s is old new planned was comes (plans rows others s fits)) h
-
--- and why it gives up
+-- why a plan of rows gives up
 pub explained : {A : Type 0} (schema : Schema) (t : ℕ) (old new : Option (List Value)) → IsTableNumber schema.tables t → AreOfTable schema.tables t old new → (a b : World) (result : Result A Broke) → IsReadBy schema.tables a.told t old → IfErr result (Explains (SpoilsMoves schema t old new) a b) → IfErr result (Explains (where_told (ShowsCounted schema)) a b)
 explained schema t old new number rows a b result read h = IfErr-weaker result (Explains (SpoilsMoves schema t old new) a b) (Explains (where_told (ShowsCounted schema)) a b) (λ error. moves_explain schema t old new number rows a b error read) h

@@ -16,7 +16,7 @@ use Rattle.pq_store.specs.Content.{Content}
 use Rattle.pq_store.specs.declared.damage.Damage.{Damage}
 use Rattle.pq_index_keep.specs.declared.plan.Planned.{Planned}
 use Rattle.pq_index_keep.specs.declared.plan.Planned.TheVariants as planned
-use Rattle.pq_index_keep.specs.Effects.{held_refusal, sum_refusal}
+use Rattle.pq_index_keep.specs.Effects.{held_refusal}
 use Rattle.pq_index_keep.specs.Tested.{with_sets}
 use Rattle.pq_index_keep.specs.declared.write.Cond.{Cond}
 use Rattle.pq_index_keep.specs.declared.write.SetCol.{SetCol}
@@ -47,11 +47,6 @@ HasSmallCounter (OfCounter counter) = All (λ col. col < 32) counter.cols
 abbrev pub row_in_place : Table → List SetCol → List Cond → List Value → Option (List Value)
 row_in_place table sets conds old =
     if is_none (held_refusal table sets conds old) then Some (with_sets sets old) else None
-
--- the row that comes in its place, where it has its sums
-pub record ComesInPlace (table : Table) (sets : List SetCol) (old new : List Value) : Type 0 where
-  pub sums : sum_refusal table sets old ≡ None
-  pub is : new ≡ with_sets sets old
 
 -- ---- how much is read and changed
 

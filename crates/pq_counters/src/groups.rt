@@ -1,14 +1,13 @@
 //! The number of rows of one group, as it is read and as it changes.
-ghost use Rattle.std.specs.Prelude.{◌≡◌, ◌≤◌, ◌+◌, ℕ, false, true, length, None, IfOk, IfErr, IfSome, IfNone, MatchOption};
+ghost use Rattle.std.specs.Prelude.{◌≡◌, ◌≤◌, false, true, length, None, IfOk, IfErr, IfSome, IfNone, MatchOption};
 ghost use Rattle.std.specs.FinMap.{get as value_at};
-ghost use Rattle.pq_store.specs.Breaks.{IsAnswered};
-ghost use Rattle.pq_pending.specs.Calls.{Uses, Fails, seen, answers_of};
-ghost use Rattle.pq_calls.specs.World.{Affords};
+ghost use Rattle.pq_pending.specs.Calls.{seen, answers_of};
 ghost use Rattle.pq_content.specs.Pairs.{is_of_counters};
 ghost use Rattle.pq_content.specs.Standing.{change_of};
 ghost use Rattle.pq_tallies.specs.Counters.{most_count};
 ghost use Rattle.pq_counters.specs.Evidence.{IsCounted, IsNoCountAt};
 ghost use Rattle.pq_counters.specs.Groups.{TurnsTo, IsTurned, IsFull, SpoilsCount, SpoilsGroup, IsSpoilt};
+ghost use Rattle.pq_counters.specs.Planning.{CanRead, Asks, AsksWithin};
 ghost use Rattle.pq_counters.specs.Promises.{IsCountValue, IsCounterChange};
 
 use crate::moved::MovedGroup;
@@ -33,11 +32,9 @@ pub(crate) fn group_count<S: Store<L>, L: Ledger>(
     at: Bytes,
     calls: &mut PendingCalls<S, L>,
 ) -> Result<GroupCount, Broke>
-    requires share { Affords calls.old.allowance.now 1 1 }
-    ensures uses { Uses S.content S.faults calls.old calls.new 1 1 }
-    ensures rounds { S.rounds calls.new.store.now ≤ S.rounds calls.old.store.now + 1 }
-    ensures cause { IfErr result (Fails (IsNoCountAt at) S.content S.faults calls.old calls.new) }
-    ensures answered { IfErr result (IsAnswered (answers_of S.answers calls.old)) }
+    requires share { CanRead calls.old 1 }
+    ensures asks { Asks S.Store (IsNoCountAt at) calls.old calls.new 1 result }
+    ensures rounds { AsksWithin S.Store calls.old calls.new 1 }
     ensures at { IfOk result (λ group. group.at ≡ at) }
     ensures few { IfOk result (λ group. group.count ≤ most_count) }
     ensures none { IfOk result (λ group. group.count ≡ 0 → answers_of S.answers calls.old at None) }

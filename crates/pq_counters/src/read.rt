@@ -10,6 +10,7 @@ ghost use Rattle.pq_pending.specs.Pending.{seen_content, seen_answers};
 ghost use Rattle.pq_tallies.specs.Counters.{counter_key as key_of_group, most_count, tally, HoldsCounted};
 ghost use Rattle.pq_tallies.specs.Defined.{counter_numbered, group_types};
 ghost use Rattle.pq_counters.specs.Evidence.{IsCounted, IsNoCount, IsNoCountAt};
+ghost use Rattle.pq_counters.specs.Planning.{AsksFrom, store_world, behind_world};
 
 use crate::groups::{GroupCount, group_count};
 use pq_base::{Bytes, Row};
@@ -30,15 +31,11 @@ fn group_behind<S: Store<L>, L: Ledger>(
     meter: &mut Meter<L>,
 ) -> Result<GroupCount, Broke>
     requires share { Affords allowance.old 1 1 }
-    ensures reads { Reads
-        (world (seen_content pending.now.changes (S.content store.old)) (S.faults store.old) allowance.old meter.old)
-        (world (seen_content pending.now.changes (S.content store.new)) (S.faults store.new) allowance.new meter.new)
-        1 1 }
+    ensures asks { AsksFrom (IsNoCountAt at)
+        (behind_world S.Store pending.now.changes store.old allowance.old meter.old)
+        (behind_world S.Store pending.now.changes store.new allowance.new meter.new)
+        1 (seen_answers S.answers pending.now.changes) result }
     ensures rounds { S.rounds store.new ≤ S.rounds store.old + 1 }
-    ensures cause { IfErr result (Explains (IsNoCountAt at)
-        (world (seen_content pending.now.changes (S.content store.old)) (S.faults store.old) allowance.old meter.old)
-        (world (seen_content pending.now.changes (S.content store.new)) (S.faults store.new) allowance.new meter.new)) }
-    ensures answered { IfErr result (IsAnswered (seen_answers S.answers pending.now.changes)) }
     ensures few { IfOk result (λ group. group.count ≤ most_count) }
     ensures counted { IfOk result (λ group. IfSome (seen_content pending.now.changes (S.content store.old))
         (λ c. IsCounted (value_at c at) group.count)) }
@@ -61,13 +58,9 @@ fn stored_group<S: Store<L>, L: Ledger>(
     meter: &mut Meter<L>,
 ) -> Result<GroupCount, Broke>
     requires share { Affords allowance.old 1 1 }
-    ensures reads { Reads (world (S.content store.old) (S.faults store.old) allowance.old meter.old)
-        (world (S.content store.new) (S.faults store.new) allowance.new meter.new) 1 1 }
+    ensures asks { AsksFrom (IsNoCountAt at) (store_world S.Store store.old allowance.old meter.old)
+        (store_world S.Store store.new allowance.new meter.new) 1 S.answers result }
     ensures rounds { S.rounds store.new ≤ S.rounds store.old + 1 }
-    ensures cause { IfErr result (Explains (IsNoCountAt at)
-        (world (S.content store.old) (S.faults store.old) allowance.old meter.old)
-        (world (S.content store.new) (S.faults store.new) allowance.new meter.new)) }
-    ensures answered { IfErr result (IsAnswered S.answers) }
     ensures few { IfOk result (λ group. group.count ≤ most_count) }
     ensures counted { IfOk result (λ group. IfSome (S.content store.old)
         (λ c. IsCounted (value_at c at) group.count)) }

@@ -1,25 +1,20 @@
 //! The changes of counters' pairs that belong to a write whose rows are not at hand.
-ghost use Rattle.std.specs.Prelude.{◌≡◌, ◌≤◌, ◌<◌, List, All, Ok, length, option_map, IfOk, IfErr, IfSome};
+ghost use Rattle.std.specs.Prelude.{◌≡◌, ◌≤◌, ◌<◌, All, length, option_map, IfOk, IfErr, IfSome};
 ghost use Rattle.std.specs.FinMap.{get as value_at};
 ghost use Rattle.pq_base.specs.Values.{AllFit};
 ghost use Rattle.pq_key_code.specs.KeyCode.{row_key};
 ghost use Rattle.pq_schema.specs.Tables.{table_at};
 ghost use Rattle.pq_schema.specs.Valid.{IsValid};
-ghost use Rattle.pq_content.specs.Pairs.{Pair};
-ghost use Rattle.pq_content.specs.Tables.{Rows, AllOfKinds, IsTableNumber, key_types, types_of, shape_of};
-ghost use Rattle.pq_store.specs.Breaks.{IsUndamaged, IsAnswered};
-ghost use Rattle.pq_pending.specs.Calls.{Uses, Fails, seen, answers_of};
+ghost use Rattle.pq_content.specs.Tables.{AllOfKinds, IsTableNumber, key_types, types_of, shape_of};
+ghost use Rattle.pq_pending.specs.Calls.{seen};
 ghost use Rattle.pq_pending.specs.Pending.{seen_content, seen_answers};
 ghost use Rattle.pq_calls.specs.Evidence.{IsRead, IsNoRow};
-ghost use Rattle.pq_calls.specs.World.{world, Affords, Reads, Explains, where_told};
-ghost use Rattle.pq_index_keep.specs.Effects.{effect};
-ghost use Rattle.pq_index_keep.specs.Promises.{IsReadFor, FitsItsTable, IsNewFor};
+ghost use Rattle.pq_calls.specs.World.{Affords, where_told};
 ghost use Rattle.pq_index_keep.specs.Sound.{IsWrite};
-ghost use Rattle.pq_tallies.specs.Counters.{HoldsCounted};
 ghost use Rattle.pq_tallies.specs.Defined.{counters_in};
-ghost use Rattle.pq_counters.specs.Bounds.{rereading, all_moves, counter_reads};
+ghost use Rattle.pq_counters.specs.Bounds.{rereading, counter_reads};
 ghost use Rattle.pq_counters.specs.Evidence.{ShowsCounted};
-ghost use Rattle.pq_counters.specs.Promises.{Counts, IsCountedWithin, RefusesAsFull};
+ghost use Rattle.pq_counters.specs.Planning.{CanRead, Asks, AsksFrom, store_world, behind_world, IsUndamagedOver, AreRowsOf, CountsWrite};
 ghost use Rattle.pq_counters.specs.Steps.{row_in_place};
 
 use crate::bound::all_moves;
@@ -43,11 +38,8 @@ fn stored_row<S: Store<L>, L: Ledger>(
 ) -> Result<Option<StoredRow>, Broke>
     requires number { IsTableNumber catalog.now.tables table }
     requires kinds { AllOfKinds (key_types (table_at catalog.now.tables table)) key.now }
-    requires share { Affords calls.old.allowance.now 1 1 }
-    ensures uses { Uses S.content S.faults calls.old calls.new 1 1 }
-    ensures cause { IfErr result (Fails (where_told (IsNoRow catalog.now.tables)) S.content S.faults calls.old
-        calls.new) }
-    ensures answered { IfErr result (IsAnswered (answers_of S.answers calls.old)) }
+    requires share { CanRead calls.old 1 }
+    ensures asks { Asks S.Store (where_told (IsNoRow catalog.now.tables)) calls.old calls.new 1 result }
     ensures read { IfOk result (λ found. IfSome (seen S.content calls.old)
         (λ c. IsRead (shape_of (table_at catalog.now.tables table)) (value_at c (row_key table key.now))
         (option_map (λ stored. stored.row) found))) }
@@ -94,15 +86,11 @@ fn read_rows<S: Store<L>, L: Ledger>(
     calls: &mut PendingCalls<S, L>,
 ) -> Result<ReadRows, Broke>
     requires write { IsWrite catalog.now.tables write.now }
-    requires share { Affords calls.old.allowance.now (rereading write.now) (rereading write.now) }
-    ensures uses { Uses S.content S.faults calls.old calls.new (rereading write.now) (rereading write.now) }
-    ensures cause { IfErr result (Fails (where_told (IsNoRow catalog.now.tables)) S.content S.faults calls.old
-        calls.new) }
-    ensures answered { IfErr result (IsAnswered (answers_of S.answers calls.old)) }
-    ensures read { IfOk result (λ rows. IfSome (seen S.content calls.old)
-        (λ c. IsReadFor catalog.now.tables write.now c rows.old)) }
-    ensures fits { IfOk result (λ rows. FitsItsTable catalog.now.tables write.now rows.old) }
-    ensures new { IfOk result (λ rows. IsNewFor catalog.now.tables write.now rows.old rows.new) }
+    requires share { CanRead calls.old (rereading write.now) }
+    ensures asks { Asks S.Store (where_told (IsNoRow catalog.now.tables)) calls.old calls.new (rereading write.now)
+        result }
+    ensures rows { IfOk result (λ rows. AreRowsOf catalog.now.tables write.now (seen S.content calls.old) rows.old
+        rows.new) }
 {
     match write {
         Write::Insert { .. } => Ok(ReadRows {
@@ -151,19 +139,10 @@ fn plan_reading<S: Store<L>, L: Ledger>(
 ) -> Result<Planned, Broke>
     requires valid { IsValid catalog.now }
     requires write { IsWrite catalog.now.tables write.now }
-    requires share { Affords calls.old.allowance.now (counter_reads (counters_in catalog.now) write.now)
-        (counter_reads (counters_in catalog.now) write.now) }
-    ensures uses { Uses S.content S.faults calls.old calls.new (counter_reads (counters_in catalog.now) write.now)
-        (counter_reads (counters_in catalog.now) write.now) }
-    ensures cause { IfErr result (Fails (where_told (ShowsCounted catalog.now)) S.content
-        S.faults calls.old calls.new) }
-    ensures answered { IfErr result (IsAnswered (answers_of S.answers calls.old)) }
-    ensures plan { IfOk result (IsCountedWithin (all_moves (counters_in catalog.now) write.now)) }
-    ensures can { IfOk result (RefusesAsFull catalog.now) }
-    ensures answer { IfOk result (λ planned. (rows made : Rows) (others : List Pair)
-        → HoldsCounted (seen S.content calls.old) catalog.now rows others
-        → effect catalog.now.tables rows write.now ≡ Ok made
-        → Counts catalog.now rows others write.now made planned) }
+    requires share { CanRead calls.old (counter_reads (counters_in catalog.now) write.now) }
+    ensures asks { Asks S.Store (where_told (ShowsCounted catalog.now)) calls.old calls.new
+        (counter_reads (counters_in catalog.now) write.now) result }
+    ensures plan { IfOk result (CountsWrite catalog.now write.now (seen S.content calls.old)) }
 {
     if all_moves(catalog, write) == 0 {
         return Ok(Planned::Changes(List::new(alloc)));
@@ -190,23 +169,14 @@ fn plan_behind<S: Store<L>, L: Ledger>(
     requires write { IsWrite catalog.now.tables write.now }
     requires share { Affords allowance.old (counter_reads (counters_in catalog.now) write.now)
         (counter_reads (counters_in catalog.now) write.now) }
-    ensures reads { Reads
-        (world (seen_content pending.now.changes (S.content store.old)) (S.faults store.old) allowance.old meter.old)
-        (world (seen_content pending.now.changes (S.content store.new)) (S.faults store.new) allowance.new meter.new)
-        (counter_reads (counters_in catalog.now) write.now) (counter_reads (counters_in catalog.now) write.now) }
-    ensures cause { IfErr result (Explains (where_told (ShowsCounted catalog.now))
-        (world (seen_content pending.now.changes (S.content store.old)) (S.faults store.old) allowance.old meter.old)
-        (world (seen_content pending.now.changes (S.content store.new)) (S.faults store.new) allowance.new meter.new)) }
-    ensures answered { IfErr result (IsAnswered (seen_answers S.answers pending.now.changes)) }
-    ensures undamaged { IfErr result (λ error. (rows : Rows) (others : List Pair)
-        → HoldsCounted (seen_content pending.now.changes (S.content store.old)) catalog.now rows others
-        → IsUndamaged error) }
-    ensures plan { IfOk result (IsCountedWithin (all_moves (counters_in catalog.now) write.now)) }
-    ensures can { IfOk result (RefusesAsFull catalog.now) }
-    ensures answer { IfOk result (λ planned. (rows made : Rows) (others : List Pair)
-        → HoldsCounted (seen_content pending.now.changes (S.content store.old)) catalog.now rows others
-        → effect catalog.now.tables rows write.now ≡ Ok made
-        → Counts catalog.now rows others write.now made planned) }
+    ensures asks { AsksFrom (where_told (ShowsCounted catalog.now))
+        (behind_world S.Store pending.now.changes store.old allowance.old meter.old)
+        (behind_world S.Store pending.now.changes store.new allowance.new meter.new)
+        (counter_reads (counters_in catalog.now) write.now) (seen_answers S.answers pending.now.changes) result }
+    ensures undamaged { IfErr result (IsUndamagedOver catalog.now
+        (seen_content pending.now.changes (S.content store.old))) }
+    ensures plan { IfOk result (CountsWrite catalog.now write.now
+        (seen_content pending.now.changes (S.content store.old))) }
 {
     catalog.known();
     let mut calls = PendingCalls {
@@ -232,22 +202,12 @@ pub fn plan_counters<S: Store<L>, L: Ledger>(
     requires write { IsWrite catalog.now.tables write.now }
     requires share { Affords allowance.old (counter_reads (counters_in catalog.now) write.now)
         (counter_reads (counters_in catalog.now) write.now) }
-    ensures reads { Reads (world (S.content store.old) (S.faults store.old) allowance.old meter.old)
-        (world (S.content store.new) (S.faults store.new) allowance.new meter.new)
-        (counter_reads (counters_in catalog.now) write.now) (counter_reads (counters_in catalog.now) write.now) }
-    ensures cause { IfErr result (Explains (where_told (ShowsCounted catalog.now))
-        (world (S.content store.old) (S.faults store.old) allowance.old meter.old)
-        (world (S.content store.new) (S.faults store.new) allowance.new meter.new)) }
-    ensures answered { IfErr result (IsAnswered S.answers) }
-    ensures undamaged { IfErr result (λ error. (rows : Rows) (others : List Pair)
-        → HoldsCounted (S.content store.old) catalog.now rows others → IsUndamaged error) }
+    ensures asks { AsksFrom (where_told (ShowsCounted catalog.now))
+        (store_world S.Store store.old allowance.old meter.old) (store_world S.Store store.new allowance.new meter.new)
+        (counter_reads (counters_in catalog.now) write.now) S.answers result }
+    ensures undamaged { IfErr result (IsUndamagedOver catalog.now (S.content store.old)) }
     // At most as many changes as the counters add, each of a counter's key to a number, whatever the store tells.
-    ensures plan { IfOk result (IsCountedWithin (all_moves (counters_in catalog.now) write.now)) }
-    ensures can { IfOk result (RefusesAsFull catalog.now) }
-    ensures answer { IfOk result (λ planned. (rows made : Rows) (others : List Pair)
-        → HoldsCounted (S.content store.old) catalog.now rows others
-        → effect catalog.now.tables rows write.now ≡ Ok made
-        → Counts catalog.now rows others write.now made planned) }
+    ensures plan { IfOk result (CountsWrite catalog.now write.now (S.content store.old)) }
 {
     let pending = Pending::none(alloc);
     plan_behind(alloc, catalog, write, &pending, store, allowance, meter)

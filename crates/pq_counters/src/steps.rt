@@ -1,22 +1,20 @@
 //! What a row that goes and a row that comes change of the counters' pairs.
-ghost use Rattle.std.specs.Prelude.{◌≡◌, ◌≤◌, ◌+◌, ℕ, [], List, Option, All, length, map, IfOk, IfErr, IfSome};
+ghost use Rattle.std.specs.Prelude.{◌≡◌, ◌≤◌, ◌+◌, ℕ, All, length, map, IfOk, IfErr, IfSome};
 ghost use Rattle.std.specs.List.{AllByRecursion, AllZip, sum_by};
 ghost use Rattle.std.specs.Option.{option_copied};
 ghost use Rattle.pq_schema.specs.Counters.{IsCounterNumber};
-ghost use Rattle.pq_content.specs.Pairs.{Pair};
 ghost use Rattle.pq_content.specs.Standing.{change_of};
-ghost use Rattle.pq_content.specs.Tables.{Rows, IsTableNumber};
-ghost use Rattle.pq_store.specs.Breaks.{IsAnswered};
-ghost use Rattle.pq_pending.specs.Calls.{Uses, Fails, seen, answers_of};
-ghost use Rattle.pq_calls.specs.World.{Affords, no_damage};
+ghost use Rattle.pq_content.specs.Tables.{IsTableNumber};
+ghost use Rattle.pq_pending.specs.Calls.{seen, answers_of};
+ghost use Rattle.pq_calls.specs.World.{no_damage};
 ghost use Rattle.pq_store.specs.Rounds.{IsValueOf, IsValueAnswered};
-ghost use Rattle.pq_tallies.specs.Counters.{HoldsCounted};
 ghost use Rattle.pq_tallies.specs.Defined.{counters_in, counter_numbered, with_number};
 ghost use Rattle.pq_tallies.specs.Writes.{counter_full};
 ghost use Rattle.pq_counters.specs.Bounds.{round_of};
 ghost use Rattle.pq_counters.specs.Groups.{asked_key, IsMovedGroup, IsSpoilt, PlansFound, PlansGroups, SpoilsFound, SpoilsGroups, value_in};
-ghost use Rattle.pq_counters.specs.Promises.{CanBeFull, IsCounterChange, IsCountedWithin, IfChanges, MovesCounts, RefusesAsFull};
-ghost use Rattle.pq_counters.specs.Steps.{moves_of, moves_at, MovesLittle, PlansMoves, AreOfTable, SpoilsMoves};
+ghost use Rattle.pq_counters.specs.Planning.{CanRead, Asks, AsksWithin, PlansRows};
+ghost use Rattle.pq_counters.specs.Promises.{CanBeFull, IsCounterChange, IsCountedWithin, RefusesAsFull};
+ghost use Rattle.pq_counters.specs.Steps.{moves_of, moves_at, MovesLittle, AreOfTable, SpoilsMoves};
 
 use crate::groups::turned;
 use crate::moved::{MovedGroup, asked_keys, moved_groups};
@@ -97,11 +95,9 @@ fn found_values<S: Store<L>, L: Ledger>(
     groups: &[MovedGroup],
     calls: &mut PendingCalls<S, L>,
 ) -> Result<List<Option<Bytes>>, Broke>
-    requires share { Affords calls.old.allowance.now (length groups.now) (length groups.now) }
-    ensures uses { Uses S.content S.faults calls.old calls.new (length groups.now) (length groups.now) }
-    ensures rounds { S.rounds calls.new.store.now ≤ S.rounds calls.old.store.now + 1 }
-    ensures cause { IfErr result (Fails no_damage S.content S.faults calls.old calls.new) }
-    ensures answered { IfErr result (IsAnswered (answers_of S.answers calls.old)) }
+    requires share { CanRead calls.old (length groups.now) }
+    ensures asks { Asks S.Store no_damage calls.old calls.new (length groups.now) result }
+    ensures rounds { AsksWithin S.Store calls.old calls.new 1 }
     ensures long { IfOk result (λ found. length found ≡ length groups.now) }
     ensures answer { IfOk result (AllZip (IsValueOf (seen S.content calls.old)) (map asked_key groups.now)) }
     ensures answers { IfOk result (AllZip (IsValueAnswered (answers_of S.answers calls.old))
@@ -119,11 +115,9 @@ fn plan_groups<S: Store<L>, L: Ledger>(
     calls: &mut PendingCalls<S, L>,
 ) -> Result<Planned, Broke>
     requires each { AllByRecursion (IsMovedGroup catalog.now) groups.now }
-    requires share { Affords calls.old.allowance.now (length groups.now) (length groups.now) }
-    ensures uses { Uses S.content S.faults calls.old calls.new (length groups.now) (length groups.now) }
-    ensures rounds { S.rounds calls.new.store.now ≤ S.rounds calls.old.store.now + round_of (length groups.now) }
-    ensures cause { IfErr result (Fails (SpoilsGroups groups.now) S.content S.faults calls.old calls.new) }
-    ensures answered { IfErr result (IsAnswered (answers_of S.answers calls.old)) }
+    requires share { CanRead calls.old (length groups.now) }
+    ensures asks { Asks S.Store (SpoilsGroups groups.now) calls.old calls.new (length groups.now) result }
+    ensures rounds { AsksWithin S.Store calls.old calls.new (round_of (length groups.now)) }
     ensures plan { IfOk result (IsCountedWithin (length groups.now)) }
     ensures can { IfOk result (RefusesAsFull catalog.now) }
     ensures plans { IfOk result (λ planned. IfSome (seen S.content calls.old)
@@ -149,28 +143,16 @@ fn plan_each<S: Store<L>, L: Ledger>(
 ) -> Result<Planned, Broke>
     requires numbers { All (IsCounterNumber catalog.now) numbers.now }
     requires small { All (MovesLittle catalog.now table (option_copied old) (option_copied new)) numbers.now }
-    requires share { Affords calls.old.allowance.now
-        (sum_by (moves_at catalog.now table (option_copied old) (option_copied new)) numbers.now)
+    requires share { CanRead calls.old
         (sum_by (moves_at catalog.now table (option_copied old) (option_copied new)) numbers.now) }
-    ensures uses { Uses S.content S.faults calls.old calls.new
-        (sum_by (moves_at catalog.now table (option_copied old.entry) (option_copied new.entry)) numbers.now)
-        (sum_by (moves_at catalog.now table (option_copied old.entry) (option_copied new.entry)) numbers.now) }
-    ensures rounds { S.rounds calls.new.store.now ≤ S.rounds calls.old.store.now + round_of
-        (sum_by (moves_at catalog.now table (option_copied old.entry) (option_copied new.entry)) numbers.now) }
-    ensures cause { IfErr result (Fails (SpoilsMoves catalog.now table (option_copied old.entry)
-        (option_copied new.entry)) S.content S.faults calls.old calls.new) }
-    ensures answered { IfErr result (IsAnswered (answers_of S.answers calls.old)) }
-    ensures plan { IfOk result (IsCountedWithin
+    ensures asks { Asks S.Store
+        (SpoilsMoves catalog.now table (option_copied old.entry) (option_copied new.entry)) calls.old calls.new
+        (sum_by (moves_at catalog.now table (option_copied old.entry) (option_copied new.entry)) numbers.now) result }
+    ensures rounds { AsksWithin S.Store calls.old calls.new (round_of
         (sum_by (moves_at catalog.now table (option_copied old.entry) (option_copied new.entry)) numbers.now)) }
-    ensures can { IfOk result (RefusesAsFull catalog.now) }
-    ensures counts { IfOk result (λ planned. IfSome (seen S.content calls.old) (λ content. IfChanges
-        (λ changes. MovesCounts content (map (counter_numbered catalog.now) numbers.now) table
-        (option_copied old.entry) (option_copied new.entry) (map change_of changes)) planned)) }
-    ensures answer { IfOk result (λ planned. (rows : Rows) (others : List Pair)
-        → HoldsCounted (seen S.content calls.old) catalog.now rows others
-        → AreOfTable catalog.now.tables table (option_copied old.entry) (option_copied new.entry)
-        → PlansMoves (map (counter_numbered catalog.now) numbers.now) rows table (option_copied old.entry)
-        (option_copied new.entry) planned) }
+    ensures plan { IfOk result (PlansRows catalog.now (map (counter_numbered catalog.now) numbers.now)
+        (sum_by (moves_at catalog.now table (option_copied old.entry) (option_copied new.entry)) numbers.now) table
+        (option_copied old.entry) (option_copied new.entry) (seen S.content calls.old)) }
 {
     catalog.known();
     let groups = moved_groups(alloc, catalog, table, old, new, numbers)?;
@@ -188,28 +170,17 @@ pub(crate) fn plan_moves<S: Store<L>, L: Ledger>(
 ) -> Result<Planned, Broke>
     requires number { IsTableNumber catalog.now.tables table }
     requires rows { AreOfTable catalog.now.tables table (option_copied old) (option_copied new) }
-    requires share { Affords calls.old.allowance.now
-        (sum_by (moves_of table (option_copied old) (option_copied new)) (counters_in catalog.now))
+    requires share { CanRead calls.old
         (sum_by (moves_of table (option_copied old) (option_copied new)) (counters_in catalog.now)) }
-    ensures uses { Uses S.content S.faults calls.old calls.new
+    ensures asks { Asks S.Store
+        (SpoilsMoves catalog.now table (option_copied old.entry) (option_copied new.entry)) calls.old calls.new
         (sum_by (moves_of table (option_copied old.entry) (option_copied new.entry)) (counters_in catalog.now))
-        (sum_by (moves_of table (option_copied old.entry) (option_copied new.entry)) (counters_in catalog.now)) }
-    ensures rounds { S.rounds calls.new.store.now ≤ S.rounds calls.old.store.now + round_of
-        (sum_by (moves_of table (option_copied old.entry) (option_copied new.entry)) (counters_in catalog.now)) }
-    ensures cause { IfErr result (Fails (SpoilsMoves catalog.now table (option_copied old.entry)
-        (option_copied new.entry)) S.content S.faults calls.old calls.new) }
-    ensures answered { IfErr result (IsAnswered (answers_of S.answers calls.old)) }
-    ensures plan { IfOk result (IsCountedWithin
+        result }
+    ensures rounds { AsksWithin S.Store calls.old calls.new (round_of
         (sum_by (moves_of table (option_copied old.entry) (option_copied new.entry)) (counters_in catalog.now))) }
-    ensures can { IfOk result (RefusesAsFull catalog.now) }
-    ensures counts { IfOk result (λ planned. IfSome (seen S.content calls.old) (λ content. IfChanges
-        (λ changes. MovesCounts content (counters_in catalog.now) table (option_copied old.entry)
-        (option_copied new.entry) (map change_of changes)) planned)) }
-    ensures answer { IfOk result (λ planned. (rows : Rows) (others : List Pair)
-        → HoldsCounted (seen S.content calls.old) catalog.now rows others
-        → AreOfTable catalog.now.tables table (option_copied old.entry) (option_copied new.entry)
-        → PlansMoves (counters_in catalog.now) rows table (option_copied old.entry) (option_copied new.entry)
-        planned) }
+    ensures plan { IfOk result (PlansRows catalog.now (counters_in catalog.now)
+        (sum_by (moves_of table (option_copied old.entry) (option_copied new.entry)) (counters_in catalog.now)) table
+        (option_copied old.entry) (option_copied new.entry) (seen S.content calls.old)) }
 {
     catalog.known();
     let numbers = catalog.counters_of(alloc, table)?;

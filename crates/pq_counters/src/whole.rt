@@ -1,26 +1,24 @@
 //! The whole plan of a write: what it changes of rows and entries, and behind that what it changes of counters' pairs.
-ghost use Rattle.std.specs.Prelude.{◌≡◌, ◌≤◌, ◌+◌, ◌++◌, All, List, map, Ok, IfOk, IfErr, IfSome};
+ghost use Rattle.std.specs.Prelude.{◌≡◌, ◌≤◌, ◌+◌, ◌++◌, List, IfOk, IfErr};
 ghost use Rattle.pq_content.specs.Pairs.{Pair};
-ghost use Rattle.pq_content.specs.Standing.{change_of};
 ghost use Rattle.pq_content.specs.Tables.{Rows};
 ghost use Rattle.pq_store.specs.Breaks.{IsUndamaged, IsAnswered};
 ghost use Rattle.pq_calls.specs.World.{world, Affords, Reads, Explains, where_told};
-ghost use Rattle.pq_index_keep.specs.Bounds.{most_changes, removers_of};
-ghost use Rattle.pq_index_keep.specs.Effects.{effect};
-ghost use Rattle.pq_pending.specs.Pending.{seen_content, seen_answers, RemovesAtMost};
-ghost use Rattle.pq_index_keep.specs.Promises.{ArePlanned, MakesRows, IsReadFor, PassesTests, FitsItsTable, HasOwn, IsNewFor, IsShortChange, IsShortWithin, RemovesFew};
+ghost use Rattle.pq_pending.specs.Calls.{seen};
+ghost use Rattle.pq_pending.specs.Pending.{seen_content, seen_answers};
+ghost use Rattle.pq_index_keep.specs.Promises.{IsShortWithin, RemovesFew};
 ghost use Rattle.pq_index_keep.specs.Sound.{IsWrite};
-ghost use Rattle.pq_tallies.specs.Counters.{counter_pairs, HoldsCounted};
+ghost use Rattle.pq_tallies.specs.Counters.{HoldsCounted};
 ghost use Rattle.pq_tallies.specs.Defined.{counters_in};
 ghost use Rattle.pq_counters.specs.Bounds.{counter_reads, counter_rounds};
 ghost use Rattle.pq_counters.specs.Evidence.{ShowsCounted};
-ghost use Rattle.pq_counters.specs.Promises.{RefusesAsFull};
+ghost use Rattle.pq_counters.specs.Planning.{CanRead, Asks, AsksWithin, AreRowsOf, ArePlannedBy, IsUndamagedOver, IsWholePlan, PlansBehind};
 ghost use Rattle.pq_counters.specs.Whole.{reads_behind, whole_changes, whole_rounds, IsWholeWithin, ChangesWhole, RefusesWhole, PlansWhole};
 
-use crate::plan::plan_by_rows;
+use crate::plan::plan_any;
 use pq_base::{List, NoMem, Row};
 use pq_index_keep::{Planned, PlannedWrite, Write, plan_with_rows};
-use pq_pending::Pending;
+use pq_pending::{Pending, PendingCalls};
 use pq_row_code::Change;
 use pq_schema::Catalog;
 use pq_store::{Allowance, Broke, Meter, Store};
@@ -45,53 +43,21 @@ fn plan_more<S: Store<L>, L: Ledger>(
     old: &Option<Row>,
     new: &Option<Row>,
     changes: List<Change>,
-    pending: &Pending,
-    store: &mut S,
-    allowance: &mut Allowance,
-    meter: &mut Meter<L>,
+    calls: &mut PendingCalls<S, L>,
 ) -> Result<Planned, Broke>
     requires write { IsWrite catalog.now.tables write.now }
-    requires planned { ArePlanned (most_changes catalog.now.tables write.now) changes }
-    requires short { All IsShortChange (map change_of changes) }
-    requires own { HasOwn catalog.now.tables write.now old.now (map change_of changes) }
-    requires thin { RemovesAtMost (removers_of write.now) (map change_of changes) }
-    requires read { IfSome (seen_content pending.now.changes (S.content store.old))
-        (λ c. IsReadFor catalog.now.tables write.now c old.now) }
-    requires passed { IfSome (seen_content pending.now.changes (S.content store.old))
-        (PassesTests catalog.now.tables write.now old.now) }
-    requires fits { FitsItsTable catalog.now.tables write.now old.now }
-    requires new { IsNewFor catalog.now.tables write.now old.now new.now }
-    requires share { Affords allowance.old (counter_reads (counters_in catalog.now) write.now)
-        (counter_reads (counters_in catalog.now) write.now) }
-    ensures same { S.content store.new ≡ S.content store.old }
-    ensures reads { Reads
-        (world (seen_content pending.now.changes (S.content store.old)) (S.faults store.old) allowance.old meter.old)
-        (world (seen_content pending.now.changes (S.content store.new)) (S.faults store.new) allowance.new meter.new)
-        (counter_reads (counters_in catalog.now) write.now) (counter_reads (counters_in catalog.now) write.now) }
-    ensures rounds { S.rounds store.new ≤ S.rounds store.old + counter_rounds (counters_in catalog.now) write.now }
-    ensures cause { IfErr result (Explains (where_told (ShowsCounted catalog.now))
-        (world (seen_content pending.now.changes (S.content store.old)) (S.faults store.old) allowance.old meter.old)
-        (world (seen_content pending.now.changes (S.content store.new)) (S.faults store.new) allowance.new meter.new)) }
-    ensures answered { IfErr result (IsAnswered (seen_answers S.answers pending.now.changes)) }
-    ensures undamaged { IfErr result (λ error. (rows : Rows) (others : List Pair)
-        → HoldsCounted (seen_content pending.now.changes (S.content store.old)) catalog.now rows others
-        → IsUndamaged error) }
-    ensures plan { IfOk result (IsWholeWithin (whole_changes catalog.now write.now)) }
-    ensures own { IfOk result
-        (ChangesWhole catalog.now (seen_content pending.now.changes (S.content store.old)) write.now) }
-    ensures can { IfOk result (RefusesAsFull catalog.now) }
-    ensures short { IfOk result IsShortWithin }
-    ensures thin { IfOk result (RemovesFew write.now) }
-    ensures answer { IfOk result (λ planned. (rows made : Rows) (others : List Pair)
-        → HoldsCounted (seen_content pending.now.changes (S.content store.old)) catalog.now rows others
-        → effect catalog.now.tables rows write.now ≡ Ok made
-        → MakesRows catalog.now.tables rows (counter_pairs (counters_in catalog.now) rows ++ others) write.now changes
-        made → PlansWhole catalog.now rows others write.now planned) }
+    requires planned { ArePlannedBy catalog.now.tables write.now (seen S.content calls.old) old.now changes }
+    requires rows { AreRowsOf catalog.now.tables write.now (seen S.content calls.old) old.now new.now }
+    requires share { CanRead calls.old (counter_reads (counters_in catalog.now) write.now) }
+    ensures asks { Asks S.Store (where_told (ShowsCounted catalog.now)) calls.old calls.new
+        (counter_reads (counters_in catalog.now) write.now) result }
+    ensures rounds { AsksWithin S.Store calls.old calls.new (counter_rounds (counters_in catalog.now) write.now) }
+    ensures undamaged { IfErr result (IsUndamagedOver catalog.now (seen S.content calls.old)) }
+    ensures plan { IfOk result (IsWholePlan catalog.now write.now (seen S.content calls.old)) }
+    ensures answer { IfOk result (PlansBehind catalog.now write.now (seen S.content calls.old) changes) }
 {
     catalog.known();
-    match plan_by_rows(
-        alloc, catalog, write, old, new, pending, store, allowance, meter,
-    ) {
+    match plan_any(alloc, catalog, write, old, new, calls) {
         Err(error) => Err(error),
         Ok(Planned::Refused(why)) => Ok(Planned::Refused(why)),
         Ok(Planned::Changes(more)) => match both(changes, more) {
@@ -149,9 +115,13 @@ pub fn plan_whole<S: Store<L>, L: Ledger>(
         Ok(PlannedWrite { planned, old, new }) => match planned {
             Planned::Refused(why) => Ok(Planned::Refused(why)),
             Planned::Changes(changes) => {
-                match plan_more(
-                    alloc, catalog, write, &old, &new, changes, pending, store, allowance, meter,
-                ) {
+                let mut calls = PendingCalls {
+                    pending,
+                    store,
+                    allowance,
+                    meter,
+                };
+                match plan_more(alloc, catalog, write, &old, &new, changes, &mut calls) {
                     Err(error) => Err(error),
                     Ok(planned) => Ok(planned),
                 }

@@ -20,7 +20,7 @@ returns-in_err-group-clause-undamaged g c =
     rw (p.1, p.2) (λ rows others s.
     explained_undamaged (where_told (IsNoCount schema.tables counter)) before after c.in_err-group.field-0.0
     (none_counted told schema rows others s c.known.ensures counter (numbered_in schema c.args.number c.requires.number))
-    (count_explains schema.tables counter c.args.values.now c.requires.kinds before after c.in_err-group.field-0.0 (rw c.in_ok-at.ensures at c.in_err-group.ensures.cause)))
+    (count_explains schema.tables counter c.args.values.now c.requires.kinds before after c.in_err-group.field-0.0 (rw c.in_ok-at.ensures at c.in_err-group.ensures.asks.cause)))
 
 pub returns-clause-stored : goal.returns-clause-stored
 returns-clause-stored g c = rw c.in_ok-at.ensures at c.in_ok-group.ensures.counted

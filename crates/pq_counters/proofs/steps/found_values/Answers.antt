@@ -5,8 +5,12 @@ use Rattle.pq_counters.proofs.steps.found_values.Goals as goal
 pub gets-requires : goal.gets-requires
 gets-requires g c = rw (c.items.ensures, c.in_ok-keys.ensures, length-map c.args.groups.now asked_key) c.requires
 
-pub returns-clause-uses : goal.returns-clause-uses
-returns-clause-uses g c = rw (c.items.ensures, c.in_ok-keys.ensures, length-map c.args.groups.now asked_key) at c.gets.ensures.uses
+pub returns-clause-asks : goal.returns-clause-asks
+returns-clause-asks g c = record {
+  uses = rw (c.items.ensures, c.in_ok-keys.ensures, length-map c.args.groups.now asked_key) at c.gets.ensures.uses;
+  cause = c.gets.ensures.cause;
+  answered = c.gets.ensures.answered;
+}
 
 pub returns-clause-long : goal.returns-clause-long
 returns-clause-long g c = rw (c.items.ensures, c.in_ok-keys.ensures, length-map c.args.groups.now asked_key) at c.gets.ensures.long

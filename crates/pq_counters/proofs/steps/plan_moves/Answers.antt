@@ -4,8 +4,8 @@ use Rattle.pq_schema.specs.Schema.{counters_of}
 use Rattle.pq_index_keep.proofs.Narrow.{valid_writable}
 use Rattle.pq_counters.proofs.Moving.{small_moves}
 use Rattle.pq_pending.specs.Calls.{seen}
-use Rattle.pq_counters.proofs.Planning.{counts_own}
-use Rattle.pq_counters.proofs.Own.{own_numbers, own_sum, plans_own}
+use Rattle.pq_counters.proofs.Own.{own_numbers, own_sum}
+use Rattle.pq_counters.proofs.Rows.{rows_own}
 use Rattle.pq_counters.proofs.steps.plan_moves.Goals as goal
 
 pub plan_each-requires-clause-numbers : goal.plan_each-requires-clause-numbers
@@ -22,24 +22,15 @@ plan_each-requires-clause-share g c =
     let schema = c.args.catalog.now in
     rw (c.items.ensures, c.in_ok-numbers.ensures, own_sum schema c.args.table (option_copied c.args.old) (option_copied c.args.new)) c.requires.share
 
-pub returns-clause-uses : goal.returns-clause-uses
-returns-clause-uses g c =
-    rw (c.items.ensures, c.in_ok-numbers.ensures, own_sum c.args.catalog.now c.args.table (option_copied c.args.old) (option_copied c.args.new)) at c.plan_each.ensures.uses
-
-pub returns-clause-plan : goal.returns-clause-plan
-returns-clause-plan g c =
-    rw (c.items.ensures, c.in_ok-numbers.ensures, own_sum c.args.catalog.now c.args.table (option_copied c.args.old) (option_copied c.args.new)) at c.plan_each.ensures.plan
-
-pub returns-clause-answer : goal.returns-clause-answer
-returns-clause-answer g c =
-    IfOk-weaker c.plan_each.result _ _ (λ planned plans rows others s is. plans_own c.args.catalog.now c.args.table (option_copied c.args.old) (option_copied c.args.new) rows planned (plans rows others s is))
-    (rw (c.items.ensures, c.in_ok-numbers.ensures) at c.plan_each.ensures.answer)
+pub returns-clause-asks : goal.returns-clause-asks
+returns-clause-asks g c =
+    rw (c.items.ensures, c.in_ok-numbers.ensures, own_sum c.args.catalog.now c.args.table (option_copied c.args.old) (option_copied c.args.new)) at c.plan_each.ensures.asks
 
 pub returns-clause-rounds : goal.returns-clause-rounds
 returns-clause-rounds g c =
     rw (c.items.ensures, c.in_ok-numbers.ensures, own_sum c.args.catalog.now c.args.table (option_copied c.args.old) (option_copied c.args.new)) at c.plan_each.ensures.rounds
 
-pub returns-clause-counts : goal.returns-clause-counts
-returns-clause-counts g c =
-    IfOk-weaker c.plan_each.result _ _ (λ planned. counts_own (seen g.S.Store.content c.args.calls.now) c.args.catalog.now c.args.table (option_copied c.args.old) (option_copied c.args.new) planned)
-    (rw (c.items.ensures, c.in_ok-numbers.ensures) at c.plan_each.ensures.counts)
+pub returns-clause-plan : goal.returns-clause-plan
+returns-clause-plan g c =
+    IfOk-weaker c.plan_each.result _ _ (rows_own c.args.catalog.now c.args.table (option_copied c.args.old) (option_copied c.args.new) (seen g.S.Store.content c.args.calls.now))
+    (rw (c.items.ensures, c.in_ok-numbers.ensures) at c.plan_each.ensures.plan)
