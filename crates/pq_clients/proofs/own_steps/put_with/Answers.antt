@@ -1,5 +1,5 @@
 use Rattle.pq_clients.proofs.Ways.{own_way}
-use Rattle.std.proofs.Common.{ℕ, List, Option, Some, None, refl, ap}
+use Rattle.std.proofs.Common.{ℕ, List, Option, Some, None, ap}
 use Rattle.pq_store.specs.Content.{Content}
 use Rattle.pq_clients.specs.Clients.{Putting, Flying}
 use Rattle.pq_clients.specs.Flights.{flight_key, new_code, stale_entries}
