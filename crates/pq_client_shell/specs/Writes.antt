@@ -1,5 +1,5 @@
 -- The writes of a script: where they begin, and which of them clients make.
-use Rattle.std.specs.Prelude.{◌≡◌, ℕ, ◌+◌, Bool, false, not, nat_le, nat_lt, length, List, [], ◌∷◌, ◌++◌, take, drop, Option, Some, None, is_some, option_and_then, Result, Ok, Err, if◌then◌else◌}
+use Rattle.std.specs.Prelude.{◌≡◌, ◌≤◌, ◌^◌, ℕ, ◌+◌, Bool, false, not, nat_le, nat_lt, length, List, [], ◌∷◌, ◌++◌, take, drop, Option, Some, None, is_some, option_and_then, Result, Ok, Err, if◌then◌else◌}
 use Rattle.std.specs.Result.{result_ok}
 use Rattle.pq_text.specs.Tokens.{tokens_of}
 use Rattle.pq_text.specs.declared.piece.Piece.{Piece}
@@ -12,6 +12,7 @@ use Rattle.pq_schema.specs.Schema.{Schema, counters_of}
 use Rattle.pq_index_keep.specs.Checking.{checked_write}
 use Rattle.pq_index_keep.specs.declared.write.Write.{Write}
 use Rattle.pq_tallies.specs.Writes.{written_table}
+use Rattle.pq_client_shell.specs.declared.script.Parted.{Parted}
 
 -- an INSERT, UPDATE or DELETE
 abbrev pub as_write : Statement → Option WriteDef
@@ -52,6 +53,19 @@ front_of pieces = take (front_count pieces) pieces
 
 abbrev pub gathered_of : List Piece → List Piece
 gathered_of pieces = drop (front_count pieces) pieces
+
+-- a script that is parted there, with no more pieces than a script may have
+pub record IsParted (p : Parted) : Type 0 where
+  pub front : p.front ≡ front_count p.script.now.pieces
+  pub within : p.front ≤ length p.script.now.pieces
+  pub few : length p.script.now.pieces ≤ 2 ^ 24
+
+-- ---- the clients
+
+-- so many clients step beside one another
+pub record AreSeats (k : ℕ) : Type 0 where
+  pub some : 1 ≤ k
+  pub most : k ≤ 16
 
 -- ---- the writes that these definitions accept
 

@@ -7,11 +7,11 @@ ghost use Rattle.pq_shell.specs.Serving.{rest_text};
 ghost use Rattle.pq_console.specs.Stops.{Causes};
 ghost use Rattle.pq_client_shell.specs.Lines.{between_text, skipped_text, unless_found};
 ghost use Rattle.pq_client_shell.specs.Runs.{RanClients, TellsCause, TellsAll, TellsPart, MadeGathered, HaltsGathered};
-ghost use Rattle.pq_client_shell.specs.Writes.{IsUncounted, front_count, gathered_of, is_skipped, one_write, writes_of};
+ghost use Rattle.pq_client_shell.specs.Writes.{AreSeats, IsParted, IsUncounted, gathered_of, is_skipped, one_write, writes_of};
 
 use crate::dealing::{deal, seat};
 use crate::lines::{put_rest, put_skipped};
-use crate::script::Script;
+use crate::script::Parted;
 use crate::telling::tell;
 use crate::turns::{by_turns, rounds_of};
 use crate::writes::write_of;
@@ -95,8 +95,7 @@ fn run_dealt<S: Store<L>, L: Ledger>(
     store: &mut S,
     meter: &mut Meter<L>,
 ) -> Result<Ran, NoMem>
-    requires some { 1 ≤ k }
-    requires seats { k ≤ 16 }
+    requires seats { AreSeats k }
     requires made { AllByRecursion (IsWrite catalog.now.tables) writes }
     requires uncounted { AllByRecursion (IsUncounted catalog.now) writes }
     requires few { length writes ≤ 2 ^ 24 }
@@ -140,24 +139,22 @@ fn behind(pieces: &[Piece], count: usize) -> &[Piece]
 }
 
 /// Sorts out the pieces behind the front.
-fn prepare(alloc: Global, catalog: &Catalog, script: &Script, count: usize) -> Result<Deal, NoMem>
-    requires count { count ≡ front_count script.now.pieces }
-    requires within { count ≤ length script.now.pieces }
-    requires few { length script.now.pieces ≤ 2 ^ 24 }
-    ensures writes { IfOk result (λ deal. deal.writes ≡ writes_of catalog.now (gathered_of script.now.pieces)) }
+fn prepare(alloc: Global, catalog: &Catalog, parted: &Parted<'_>) -> Result<Deal, NoMem>
+    requires { IsParted parted.now }
+    ensures writes { IfOk result (λ deal. deal.writes ≡ writes_of catalog.now (gathered_of parted.now.script.now.pieces)) }
     ensures made { IfOk result (λ deal. AllByRecursion (IsWrite catalog.now.tables) deal.writes) }
     ensures uncounted { IfOk result (λ deal. AllByRecursion (IsUncounted catalog.now) deal.writes) }
     ensures few { IfOk result (λ deal. length deal.writes ≤ 2 ^ 24) }
     ensures text { IfOk result (λ deal. deal.text
-        ≡ between_text catalog.now script.now.pieces script.now.unfinished) }
+        ≡ between_text catalog.now parted.now.script.now.pieces parted.now.script.now.unfinished) }
     ensures skipped { IfOk result (λ deal. deal.skipped
-        ≡ list_any (is_skipped catalog.now) (gathered_of script.now.pieces)) }
+        ≡ list_any (is_skipped catalog.now) (gathered_of parted.now.script.now.pieces)) }
 {
-    let pieces = script.pieces.items();
+    let pieces = parted.script.pieces.items();
     let number = pieces.len() as u32 + 1;
-    let rest = behind(pieces, count);
-    let sorted = sort_out(alloc, catalog, count as u32 + 1, rest)?;
-    let text = between(alloc, sorted.lines, script.unfinished, number)?;
+    let rest = behind(pieces, parted.front);
+    let sorted = sort_out(alloc, catalog, parted.front as u32 + 1, rest)?;
+    let text = between(alloc, sorted.lines, parted.script.unfinished, number)?;
     Ok(Deal {
         writes: sorted.writes,
         text,
@@ -176,8 +173,7 @@ fn step_clients<S: Store<L>, O: Sink, L: Ledger>(
     meter: &mut Meter<L>,
     sink: &mut O,
 ) -> Result<bool, Stop>
-    requires some { 1 ≤ k }
-    requires seats { k ≤ 16 }
+    requires seats { AreSeats k }
     requires made { AllByRecursion (IsWrite catalog.now.tables) writes }
     requires uncounted { AllByRecursion (IsUncounted catalog.now) writes }
     requires few { length writes ≤ 2 ^ 24 }
@@ -202,30 +198,26 @@ pub fn run_gathered<S: Store<L>, O: Sink, L: Ledger>(
     alloc: Global,
     catalog: &Catalog,
     k: u32,
-    script: &Script,
-    count: usize,
+    parted: &Parted<'_>,
     store: &mut S,
     meter: &mut Meter<L>,
     sink: &mut O,
 ) -> Result<bool, Stop>
-    requires some { 1 ≤ k }
-    requires seats { k ≤ 16 }
-    requires count { count ≡ front_count script.now.pieces }
-    requires within { count ≤ length script.now.pieces }
-    requires few { length script.now.pieces ≤ 2 ^ 24 }
-    ensures ok { IfOk result (λ refused. MadeGathered k catalog.now script.now refused
+    requires seats { AreSeats k }
+    requires parted { IsParted parted.now }
+    ensures ok { IfOk result (λ refused. MadeGathered k catalog.now parted.now.script.now refused
         (moment (S.content store.old) (O.held sink.old) meter.old)
         (moment (S.content store.new) (O.held sink.new) meter.new)) }
-    ensures err { IfErr result (λ stop. HaltsGathered k catalog.now script.now stop
+    ensures err { IfErr result (λ stop. HaltsGathered k catalog.now parted.now.script.now stop
         (moment (S.content store.old) (O.held sink.old) meter.old)
         (moment (S.content store.new) (O.held sink.new) meter.new)) }
     ensures causes { Causes (S.faults store.old) (S.faults store.new) (O.faults sink.old) (O.faults sink.new) result }
 {
-    let Ok(deal) = prepare(alloc, catalog, script, count) else {
+    let Ok(deal) = prepare(alloc, catalog, parted) else {
         return Err(Stop::NoMem);
     };
     write_text(&deal.text, sink)?;
     let undone = step_clients(alloc, catalog, k, deal.writes, store, meter, sink)?;
-    let behind = either(script.unfinished, undone);
+    let behind = either(parted.script.unfinished, undone);
     Ok(either(deal.skipped, behind))
 }

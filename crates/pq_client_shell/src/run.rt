@@ -12,11 +12,11 @@ ghost use Rattle.pq_shell.specs.Run.{IsPlain, run_world};
 ghost use Rattle.pq_console.specs.Stops.{Causes};
 ghost use Rattle.pq_client_shell.specs.Runs.{OpensStore, MadeRead, HaltsRead, FinishedClients, BrokenClients, Ends, IsReadWithin};
 ghost use Rattle.pq_client_shell.specs.Words.{AreWords};
-ghost use Rattle.pq_client_shell.specs.Writes.{front_count};
+ghost use Rattle.pq_client_shell.specs.Writes.{AreSeats, IsParted};
 
 use crate::front::run_front;
 use crate::gathered::{either, run_gathered};
-use crate::script::{Script, read_script};
+use crate::script::{Parted, read_script};
 use crate::words::clients_of;
 use crate::writes::front_count;
 use pq_base::PText;
@@ -53,32 +53,28 @@ fn run_read<S: Store<L>, O: Sink, L: Ledger>(
     alloc: Global,
     k: u32,
     session: PlannedCatalog,
-    script: &Script,
-    count: usize,
+    parted: &Parted<'_>,
     store: &mut S,
     meter: &mut Meter<L>,
     sink: &mut O,
 ) -> Result<Ended, Stop>
-    requires some { 1 ≤ k }
-    requires seats { k ≤ 16 }
-    requires count { count ≡ front_count script.now.pieces }
-    requires within { count ≤ length script.now.pieces }
-    requires few { length script.now.pieces ≤ 2 ^ 24 }
-    ensures ok { IfOk result (λ ended. MadeRead k session script.now ended
+    requires seats { AreSeats k }
+    requires parted { IsParted parted.now }
+    ensures ok { IfOk result (λ ended. MadeRead k session parted.now.script.now ended
         (moment (S.content store.old) (O.held sink.old) meter.old)
         (moment (S.content store.new) (O.held sink.new) meter.new)) }
-    ensures err { IfErr result (λ stop. HaltsRead S.answers k session script.now stop
+    ensures err { IfErr result (λ stop. HaltsRead S.answers k session parted.now.script.now stop
         (moment (S.content store.old) (O.held sink.old) meter.old)
         (moment (S.content store.new) (O.held sink.new) meter.new)) }
     ensures causes { Causes (S.faults store.old) (S.faults store.new) (O.faults sink.old) (O.faults sink.new) result }
 {
-    let pieces = &script.pieces.items()[..count];
+    let pieces = &parted.script.pieces.items()[..parted.front];
     let front = run_front(alloc, session, pieces, store, meter, sink)?;
     let catalog = front.session.catalog();
-    let behind = run_gathered(alloc, catalog, k, script, count, store, meter, sink)?;
+    let behind = run_gathered(alloc, catalog, k, parted, store, meter, sink)?;
     let refused = either(front.refused, behind);
     Ok(Ended {
-        ending: script.ending,
+        ending: parted.script.ending,
         refused,
     })
 }
@@ -92,8 +88,7 @@ fn run_script<S: Store<L>, I: Source, O: Sink, L: Ledger>(
     meter: &mut Meter<L>,
     sink: &mut O,
 ) -> Result<Ended, Stop>
-    requires some { 1 ≤ k }
-    requires seats { k ≤ 16 }
+    requires seats { AreSeats k }
     ensures ok { IfOk result (λ ended. FinishedClients k ended.ending ended.refused
         (run_world (I.left source.old) (S.content store.old) (O.held sink.old) meter.old)
         (run_world (I.left source.new) (S.content store.new) (O.held sink.new) meter.new)) }
@@ -112,10 +107,14 @@ fn run_script<S: Store<L>, I: Source, O: Sink, L: Ledger>(
     let Ok(script) = read_script(alloc, source) else {
         return Err(Stop::NoMem);
     };
-    let Ok(count) = front_count(alloc, script.pieces.items()) else {
+    let Ok(front) = front_count(alloc, script.pieces.items()) else {
         return Err(Stop::NoMem);
     };
-    run_read(alloc, k, session, &script, count, store, meter, sink)
+    let parted = Parted {
+        script: &script,
+        front,
+    };
+    run_read(alloc, k, session, &parted, store, meter, sink)
 }
 
 /// Runs a script of the source whose writes clients make beside one another, and writes what they were told.
@@ -175,8 +174,7 @@ fn run<S: Store<L>, I: Source, O: Sink, L: Ledger>(
     sink: &mut O,
     meter: &mut Meter<L>,
 ) -> Status
-    requires some { 1 ≤ k }
-    requires seats { k ≤ 16 }
+    requires seats { AreSeats k }
     ensures ends { Ends S.answers k result
         (run_world (I.left source.old) (S.content store.old) (O.held sink.old) meter.old)
         (run_world (I.left source.new) (S.content store.new) (O.held sink.new) meter.new) }

@@ -24,6 +24,13 @@ pub struct Script {
     pub unfinished: bool,
 }
 
+/// A script, parted where its writes begin: so many of its pieces stand before the first of them.
+#[derive(Clone, Copy)]
+pub struct Parted<'a> {
+    pub script: &'a Script,
+    pub front: usize,
+}
+
 /// Reads a source to its end, a fault or the limit.
 fn read_bytes<I: Source>(source: &mut I, bytes: &mut Vec<u8>) -> Result<Ending, NoMem>
     requires { bytes.old.items ≡ [] }

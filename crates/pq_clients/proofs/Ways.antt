@@ -9,9 +9,9 @@ use Rattle.pq_store.specs.Content.{Content}
 use Rattle.pq_clients.specs.Goes.{Spot, Goes, Memory}
 use Rattle.pq_clients.specs.Seen.{seen_course}
 use Rattle.pq_schema.specs.declared.table.Table.{Table}
-use Rattle.pq_clients.specs.Calling.{way}
-use Rattle.pq_clients.specs.Clients.{Stage}
-use Rattle.pq_clients.specs.Steps.{Then, flown}
+use Rattle.pq_clients.specs.InFlight.{StepsFrom}
+use Rattle.pq_clients.specs.Clients.{Stage, Flying}
+use Rattle.pq_clients.specs.Steps.{Then}
 use Rattle.pq_clients.proofs.Going.{follow, starved}
 
 -- one of two ways
@@ -64,10 +64,7 @@ ok_at P (Ok x) is b = is b
 ok_at P (Err e) is b = tt
 
 -- a step of a stage that is known by other words
-module _ (tables : List Table) (f : Flight) (one other : Stage) (r : Result Course Halt) (same : one ≡ other) where
-  pub goes_stage : (client number : ℕ) (before after : Spot) → Goes (seen_course f) (flown tables client number f one) before after r
-      → Goes (seen_course f) (flown tables client number f other) before after r
-  goes_stage client number before after goes = subst (λ (s : Stage). Goes (seen_course f) (flown tables client number f s) before after r) same goes
-
-  pub way_stage : IfOk r (IsOne f (way tables f one)) → IfOk r (IsOne f (way tables f other))
-  way_stage is = subst (λ (s : Stage). IfOk r (IsOne f (way tables f s))) same is
+module _ (tables : List Table) (client number : ℕ) (f : Flight) (one other : Stage) (r : Result Course Halt) (same : one ≡ other) where
+  pub of_stage : (before after : Spot) → StepsFrom tables client number f.write (Flying f one) f before after r
+      → StepsFrom tables client number f.write (Flying f other) f before after r
+  of_stage before after steps = subst (λ (s : Stage). StepsFrom tables client number f.write (Flying f s) f before after r) same steps

@@ -1,6 +1,6 @@
 -- What turns of clients leave: over every store, and over one that tells its content.
-use Rattle.std.specs.Prelude.{◌≡◌, false, ◌⊎◌, ℕ, ◌+◌, ◌-◌, ◌≤◌, length, if◌then◌else◌, List, [], ◌∷◌, ◌++◌, map, slice_set, Option, Some, None, IfSome}
-use Rattle.std.specs.List.{slice_get}
+use Rattle.std.specs.Prelude.{◌≡◌, false, ◌⊎◌, ℕ, ◌+◌, ◌-◌, ◌≤◌, length, if◌then◌else◌, List, [], ◌∷◌, ◌++◌, map, slice_set, vec_capacity, Option, Some, None, IfSome}
+use Rattle.std.specs.List.{slice_get, sum_by}
 use Rattle.pq_base.specs.Members.{In}
 use Rattle.pq_schema.specs.declared.table.Table.{Table}
 use Rattle.pq_store.specs.Content.{Content, HasRisen}
@@ -9,6 +9,7 @@ use Rattle.pq_clients.specs.declared.outcome.Outcome.TheVariants as outcome
 use Rattle.pq_clients.specs.declared.outcome.Step.{Step}
 use Rattle.pq_clients.specs.declared.outcome.Told.{Told}
 use Rattle.pq_clients.specs.declared.outcome.Wrote.{Wrote}
+use Rattle.pq_clients.specs.declared.run.Running.{Running}
 use Rattle.pq_clients.specs.Clients.{Stage, Clearing, Freeing, Next, Flying, View, is_over}
 use Rattle.pq_clients.specs.Runs.{Event, Run, run, told_by, put_by}
 use Rattle.pq_clients.specs.Goes.{Spot}
@@ -44,6 +45,14 @@ tells_left v = if is_over v then 0 else length v.writes - (v.at - 1)
 
 abbrev pub puts_left : View → ℕ
 puts_left v = if is_over v then 0 else length v.writes - (v.at - 1) - was_put v.next
+
+-- a run on its way, with room for all that is still told and put
+pub record HasRoom (r : Running) : Type 0 where
+  pub told : length r.told.items + sum_by tells_left (views_of r.clients.items) ≤ vec_capacity r.told
+  pub puts : length r.puts.items + sum_by puts_left (views_of r.clients.items) ≤ vec_capacity r.puts
+
+abbrev pub moment_of : Spot → Running → Moment
+moment_of spot r = moment spot (views_of r.clients.items) r.told.items r.puts.items
 
 -- ---- turns
 

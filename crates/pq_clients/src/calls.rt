@@ -4,8 +4,9 @@ ghost use Rattle.std.specs.Option.{option_copied};
 ghost use Rattle.pq_key_code.specs.KeyCode.{past_code};
 ghost use Rattle.std.specs.FinMap.{get as value_at};
 ghost use Rattle.pq_store.specs.Content.{written_content, after_write, admits};
-ghost use Rattle.pq_clients.specs.Goes.{Goes, spot};
+ghost use Rattle.pq_clients.specs.Goes.{Goes};
 ghost use Rattle.pq_clients.specs.Steps.{is_just, counted};
+ghost use Rattle.pq_clients.specs.InFlight.{spot_of};
 
 use crate::halt::Halt;
 use pq_base::Bytes;
@@ -22,8 +23,7 @@ pub(crate) fn get_pair<S: Store<L>, L: Ledger>(
     meter: &mut Meter<L>,
 ) -> Result<Option<Bytes>, Halt>
     ensures { Goes (λ found. found) (λ c. (c, value_at c key.now))
-        (spot (S.content store.old) (S.faults store.old) meter.old)
-        (spot (S.content store.new) (S.faults store.new) meter.new) result }
+        (spot_of S.Store store.old meter.old) (spot_of S.Store store.new meter.new) result }
 {
     match store.get(alloc, key, meter) {
         Ok(found) => Ok(found),
@@ -40,8 +40,7 @@ pub(crate) fn count_pairs<S: Store<L>, L: Ledger>(
     meter: &mut Meter<L>,
 ) -> Result<u32, Halt>
     ensures { Goes (λ n. n) (λ c. (c, counted c front.now cap))
-        (spot (S.content store.old) (S.faults store.old) meter.old)
-        (spot (S.content store.new) (S.faults store.new) meter.new) result }
+        (spot_of S.Store store.old meter.old) (spot_of S.Store store.new meter.new) result }
 {
     let copy = Bytes::of_bytes(alloc, front)?;
     let high = past(alloc, copy)?;
@@ -59,8 +58,7 @@ fn count_up_to<S: Store<L>, L: Ledger>(
 ) -> Result<u32, Halt>
     requires { high.now ≡ past_code front.now }
     ensures { Goes (λ n. n) (λ c. (c, counted c front.now cap))
-        (spot (S.content store.old) (S.faults store.old) meter.old)
-        (spot (S.content store.new) (S.faults store.new) meter.new) result }
+        (spot_of S.Store store.old meter.old) (spot_of S.Store store.new meter.new) result }
 {
     match store.count(alloc, front, high, cap, meter) {
         Ok(n) => Ok(n),
@@ -99,8 +97,7 @@ fn write_pair<S: Store<L>, L: Ledger>(
       after_write guard.entry key.now (option_copied new.entry) c,
       admits guard.entry (value_at c key.now),
     ))
-        (spot (S.content store.old) (S.faults store.old) meter.old)
-        (spot (S.content store.new) (S.faults store.new) meter.new) result }
+        (spot_of S.Store store.old meter.old) (spot_of S.Store store.new meter.new) result }
 {
     match store.write(alloc, key, guard, new, meter) {
         Ok(done) => Ok(done),
@@ -122,8 +119,7 @@ pub(crate) fn write_over<S: Store<L>, L: Ledger>(
           then written_content key.now new.now c else c,
       is_just expected.now (value_at c key.now),
     ))
-        (spot (S.content store.old) (S.faults store.old) meter.old)
-        (spot (S.content store.new) (S.faults store.new) meter.new) result }
+        (spot_of S.Store store.old meter.old) (spot_of S.Store store.new meter.new) result }
 {
     write_pair(alloc, key, guard_of(expected), value_of(new), store, meter)
 }
@@ -137,8 +133,7 @@ pub(crate) fn write_any<S: Store<L>, L: Ledger>(
     meter: &mut Meter<L>,
 ) -> Result<bool, Halt>
     ensures { Goes (λ done. done) (λ c. (written_content key.now new.now c, true))
-        (spot (S.content store.old) (S.faults store.old) meter.old)
-        (spot (S.content store.new) (S.faults store.new) meter.new) result }
+        (spot_of S.Store store.old meter.old) (spot_of S.Store store.new meter.new) result }
 {
     write_pair(alloc, key, Guard::Any, value_of(new), store, meter)
 }

@@ -9,9 +9,11 @@ ghost use Rattle.pq_schema.specs.declared.table.Foreign.{Foreign as Key};
 ghost use Rattle.pq_schema.specs.Sound.{AreColumns};
 ghost use Rattle.pq_index_keep.specs.Sound.{AreWritable};
 ghost use Rattle.pq_clients.specs.Fitting.{MayWrite, IsMadeTable, HasColumns, IsCheck, IsLate};
-ghost use Rattle.pq_clients.specs.Flights.{Parent, Child, key_written, gives, is_tested, parent_checks, child_checks_of, child_checks, checks_of, flight_checks, check_refusal, IsGranted};
+ghost use Rattle.pq_clients.specs.Flights.{Parent, Child, key_written, gives, is_tested, parent_checks, child_checks_of, child_checks, checks_of, flight_checks, check_refusal};
 ghost use Rattle.pq_clients.specs.Seen.{flight, seen_check};
+ghost use Rattle.pq_clients.specs.InFlight.{tables_of, seen_flight, MayFly};
 
+use crate::flight::InFlight;
 use crate::rows::{new_row, table_number, table_of};
 use crate::stage::Check;
 use pq_base::{Bytes, List, NoMem, Refusal, Row};
@@ -121,11 +123,17 @@ fn child_check(
     })
 }
 
+/// A row that others may name: its table's number, and its key.
+#[derive(Clone, Copy)]
+struct Named<'a> {
+    table: u8,
+    key: &'a Row,
+}
+
 /// Puts the rows that name a row by a foreign key behind the checks, where it refers to the row's table.
 fn put_child(
     alloc: Global,
-    named: u8,
-    key: &Row,
+    named: &Named<'_>,
     number: u8,
     table: &Table,
     place: usize,
@@ -136,13 +144,14 @@ fn put_child(
     requires columns { AreColumns foreign.now.cols }
     requires access { IsSome (group_access table.now (set_of foreign.now.cols)) }
     ensures { OnOk result ((rest : Items Key) → map seen_check checks.new
-        ++ child_checks_of named key.now number table.now (place + 1) rest
-        ≡ map seen_check checks.old ++ child_checks_of named key.now number table.now place (foreign.now ∷ rest)) }
+        ++ child_checks_of named.now.table named.now.key.now number table.now (place + 1) rest
+        ≡ map seen_check checks.old
+        ++ child_checks_of named.now.table named.now.key.now number table.now place (foreign.now ∷ rest)) }
 {
-    if foreign.table == named {
+    if foreign.table == named.table {
         checks.push(
             alloc,
-            child_check(alloc, number, table, place, foreign, key)?,
+            child_check(alloc, number, table, place, foreign, named.key)?,
         )
     } else {
         Ok(())
@@ -152,8 +161,7 @@ fn put_child(
 /// Puts the rows of one table that name a row behind the checks.
 fn put_children_of(
     alloc: Global,
-    named: u8,
-    key: &Row,
+    named: &Named<'_>,
     number: u8,
     table: &Table,
     foreign: &[Foreign],
@@ -163,10 +171,10 @@ fn put_children_of(
     requires columns { All (λ f. AreColumns f.cols) foreign.now }
     requires access { All (λ f. IsSome (group_access table.now (set_of f.cols))) foreign.now }
     ensures { OnOk result (map seen_check checks.new
-        ≡ map seen_check checks.old ++ child_checks_of named key.now number table.now 0 foreign.now) }
+        ≡ map seen_check checks.old ++ child_checks_of named.now.table named.now.key.now number table.now 0 foreign.now) }
 {
     for (place, own) in foreign.iter().enumerate() {
-        put_child(alloc, named, key, number, table, place, own, checks)?;
+        put_child(alloc, named, number, table, place, own, checks)?;
     }
     Ok(())
 }
@@ -174,19 +182,18 @@ fn put_children_of(
 /// Puts the rows that name a row behind the checks.
 fn put_children(
     alloc: Global,
-    named: u8,
-    key: &Row,
+    named: &Named<'_>,
     tables: &[Table],
     checks: &mut List<Check>,
 ) -> Result<(), NoMem>
     requires sound { AreWritable tables.now }
     requires few { length tables.now ≤ 64 }
     ensures { OnOk result (map seen_check checks.new
-        ≡ map seen_check checks.old ++ child_checks named key.now 1 tables.now) }
+        ≡ map seen_check checks.old ++ child_checks named.now.table named.now.key.now 1 tables.now) }
 {
     for (i, table) in tables.iter().enumerate() {
         let foreign = table.foreign.items();
-        put_children_of(alloc, named, key, i as u8 + 1, table, foreign, checks)?;
+        put_children_of(alloc, named, i as u8 + 1, table, foreign, checks)?;
     }
     Ok(())
 }
@@ -225,13 +232,11 @@ fn checks_of(
         }
         None => {
             let key = key_written(alloc, catalog, write)?;
-            put_children(
-                alloc,
-                table_number(write),
-                &key,
-                catalog.tables(),
-                &mut checks,
-            )?;
+            let named = Named {
+                table: table_number(write),
+                key: &key,
+            };
+            put_children(alloc, &named, catalog.tables(), &mut checks)?;
         }
     }
     Ok(checks)
@@ -239,19 +244,13 @@ fn checks_of(
 
 /// What the write tests of parents or children.
 #[tactic(auto, unfolding(crate::specs::Flights::flight_checks))]
-pub(crate) fn flight_checks(
-    alloc: Global,
-    catalog: &Catalog,
-    write: &Write,
-    read: &Option<Bytes>,
-) -> Result<List<Check>, NoMem>
-    requires write { MayWrite catalog.now.tables write.now }
-    requires granted { IsGranted catalog.now.tables (flight write.now read.now) }
+pub(crate) fn flight_checks(alloc: Global, flight: &InFlight<'_>) -> Result<List<Check>, NoMem>
+    requires { MayFly flight.now }
     ensures { IfOk result (λ checks. map seen_check checks
-        ≡ flight_checks catalog.now.tables (flight write.now read.now)) }
+        ≡ flight_checks (tables_of flight.now) (seen_flight flight.now)) }
 {
-    let new = new_row(alloc, catalog, write, read)?;
-    checks_of(alloc, catalog, write, &new)
+    let new = new_row(alloc, flight)?;
+    checks_of(alloc, flight.catalog, flight.write, &new)
 }
 
 /// Why a write is refused that doesn't pass.

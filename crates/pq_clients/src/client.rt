@@ -7,9 +7,11 @@ ghost use Rattle.pq_clients.specs.Fitting.{MayWrite, FitsNext};
 ghost use Rattle.pq_clients.specs.Goes.{Goes, spot};
 ghost use Rattle.pq_clients.specs.Seen.{flight, seen_next, seen_ending, seen_course};
 ghost use Rattle.pq_clients.specs.Steps.{gone_on, is_fault, tells};
-ghost use Rattle.pq_clients.specs.Stepping.{gone_from, IsWay, TakesWay, view_of, at_hand, hand_of, IsClient, outcome_of, Concludes, Ended, EndsBy, GoesOn, Follows, LeavesStep, MakesCall};
+ghost use Rattle.pq_clients.specs.Stepping.{IsWay, TakesWay, view_of, at_hand, hand_of, IsClient, outcome_of, Concludes, Ended, EndsBy, GoesOn, Follows, LeavesStep, MakesCall};
+ghost use Rattle.pq_clients.specs.InFlight.{tables_of, seen_flight, spot_of, StepsFrom};
 
 use crate::entries::{copy_found, copy_key};
+use crate::flight::{Holder, InFlight};
 use crate::halt::Halt;
 use crate::outcome::{Outcome, Step, Told, Wrote};
 use crate::reading::{look, read};
@@ -39,31 +41,30 @@ pub struct Client {
 /// The one call of a step.
 fn go<S: Store<L>, L: Ledger>(
     alloc: Global,
-    catalog: &Catalog,
-    client: u32,
-    number: u32,
-    write: &Write,
-    before: &Option<Bytes>,
+    flight: &InFlight<'_>,
+    holder: Holder,
     next: &Phase,
     store: &mut S,
     meter: &mut Meter<L>,
 ) -> Result<Course, Halt>
-    requires write { MayWrite catalog.now.tables write.now }
-    requires fits { FitsNext catalog.now.tables (seen_next (flight write.now before.now) next.now) }
-    ensures goes { Goes (seen_course (flight write.now before.now))
-        (gone_from catalog.now.tables client number write.now (seen_next (flight write.now before.now) next.now))
-        (spot (S.content store.old) (S.faults store.old) meter.old)
-        (spot (S.content store.new) (S.faults store.new) meter.new) result }
-    ensures way { IfOk result (λ course. IsWay catalog.now.tables client write.now
-        (seen_next (flight write.now before.now) next.now) (seen_course (flight write.now before.now) course)) }
+    requires write { MayWrite (tables_of flight.now) flight.now.write.now }
+    requires fits { FitsNext (tables_of flight.now) (seen_next (seen_flight flight.now) next.now) }
+    ensures { StepsFrom (tables_of flight.now) holder.client holder.number flight.now.write.now
+        (seen_next (seen_flight flight.now) next.now) (seen_flight flight.now)
+        (spot_of S.Store store.old meter.old) (spot_of S.Store store.new meter.new) result }
 {
     match next {
-        Phase::Reading => read(alloc, catalog, client, write, store, meter),
-        Phase::Taking => take(alloc, catalog, client, number, write, before, store, meter),
-        Phase::Looking => look(alloc, catalog, write, before, store, meter),
-        Phase::Flying { stage } => fly(
-            alloc, catalog, client, number, write, before, stage, store, meter,
+        Phase::Reading => read(
+            alloc,
+            flight.catalog,
+            holder.client,
+            flight.write,
+            store,
+            meter,
         ),
+        Phase::Taking => take(alloc, flight, holder, store, meter),
+        Phase::Looking => look(alloc, flight, store, meter),
+        Phase::Flying { stage } => fly(alloc, flight, holder, stage, store, meter),
     }
 }
 
@@ -267,24 +268,23 @@ impl Client {
         requires going { is_over (view_of self.now) ≡ false }
         ensures goes { Goes (seen_course (hand_of self.now))
             (gone_on catalog.now.tables (view_of self.now) (view_of self.now).next)
-            (spot (S.content store.old) (S.faults store.old) meter.old)
-            (spot (S.content store.new) (S.faults store.new) meter.new) result }
+            (spot_of S.Store store.old meter.old)
+            (spot_of S.Store store.new meter.new) result }
         ensures way { IfOk result (λ course. IsWay catalog.now.tables self.now.number
             (at_hand self.now.writes self.now.at) (view_of self.now).next (seen_course (hand_of self.now) course)) }
     {
         let number = self.at as u32;
         let write = self.write();
-        go(
-            alloc,
+        let flight = InFlight {
             catalog,
-            self.number,
-            number,
             write,
-            &self.read,
-            &self.next,
-            store,
-            meter,
-        )
+            read: &self.read,
+        };
+        let holder = Holder {
+            client: self.number,
+            number,
+        };
+        go(alloc, &flight, holder, &self.next, store, meter)
     }
 
     /// One step: one call of the store, or none where the client is over or there is no memory.

@@ -5,14 +5,14 @@ ghost use Rattle.pq_content.specs.Pairs.{entries_from};
 ghost use Rattle.pq_schema.specs.Sound.{AreColumns, AreParts};
 ghost use Rattle.pq_store.specs.Content.{key_cmp};
 ghost use Rattle.pq_clients.specs.Fitting.{MayWrite, IsMadeTable};
-ghost use Rattle.pq_clients.specs.Flights.{entry_keys, keys_of_row, has_entry, left_out, old_entries, new_entries, fresh_entries, stale_entries, IsGranted};
-ghost use Rattle.pq_clients.specs.Seen.{flight};
+ghost use Rattle.pq_clients.specs.Flights.{entry_keys, keys_of_row, has_entry, left_out, old_entries, new_entries, fresh_entries, stale_entries};
+ghost use Rattle.pq_clients.specs.InFlight.{tables_of, seen_flight, MayFly};
 
+use crate::flight::InFlight;
 use crate::rows::{new_row, old_row, table_number, table_of};
 use pq_base::{Bytes, List, NoMem, Row};
-use pq_index_keep::Write;
 use pq_row_keys::entry_of;
-use pq_schema::{Catalog, Index, Table};
+use pq_schema::{Index, Table};
 use std::alloc::Global;
 
 fn put_keys(
@@ -103,63 +103,50 @@ fn left_out(alloc: Global, keys: &[Bytes], others: &[Bytes]) -> Result<List<Byte
 }
 
 #[tactic(auto, unfolding(crate::specs::Flights::old_entries))]
-fn old_entries(
-    alloc: Global,
-    catalog: &Catalog,
-    write: &Write,
-    read: &Option<Bytes>,
-) -> Result<List<Bytes>, NoMem>
-    requires { MayWrite catalog.now.tables write.now }
-    ensures { IfOk result (λ keys. keys ≡ old_entries catalog.now.tables (flight write.now read.now)) }
+fn old_entries(alloc: Global, flight: &InFlight<'_>) -> Result<List<Bytes>, NoMem>
+    requires { MayWrite (tables_of flight.now) flight.now.write.now }
+    ensures { IfOk result (λ keys. keys ≡ old_entries (tables_of flight.now) (seen_flight flight.now)) }
 {
-    let row = old_row(alloc, catalog, write, read)?;
-    keys_of_row(alloc, table_number(write), table_of(catalog, write), &row)
+    let row = old_row(alloc, flight)?;
+    keys_of_row(
+        alloc,
+        table_number(flight.write),
+        table_of(flight.catalog, flight.write),
+        &row,
+    )
 }
 
 #[tactic(auto, unfolding(crate::specs::Flights::new_entries))]
-fn new_entries(
-    alloc: Global,
-    catalog: &Catalog,
-    write: &Write,
-    read: &Option<Bytes>,
-) -> Result<List<Bytes>, NoMem>
-    requires write { MayWrite catalog.now.tables write.now }
-    requires granted { IsGranted catalog.now.tables (flight write.now read.now) }
-    ensures { IfOk result (λ keys. keys ≡ new_entries catalog.now.tables (flight write.now read.now)) }
+fn new_entries(alloc: Global, flight: &InFlight<'_>) -> Result<List<Bytes>, NoMem>
+    requires { MayFly flight.now }
+    ensures { IfOk result (λ keys. keys ≡ new_entries (tables_of flight.now) (seen_flight flight.now)) }
 {
-    let row = new_row(alloc, catalog, write, read)?;
-    keys_of_row(alloc, table_number(write), table_of(catalog, write), &row)
+    let row = new_row(alloc, flight)?;
+    keys_of_row(
+        alloc,
+        table_number(flight.write),
+        table_of(flight.catalog, flight.write),
+        &row,
+    )
 }
 
 /// The entries that the new row has and the old one has not.
-pub(crate) fn fresh_entries(
-    alloc: Global,
-    catalog: &Catalog,
-    write: &Write,
-    read: &Option<Bytes>,
-) -> Result<List<Bytes>, NoMem>
-    requires write { MayWrite catalog.now.tables write.now }
-    requires granted { IsGranted catalog.now.tables (flight write.now read.now) }
-    ensures { IfOk result (λ keys. keys ≡ fresh_entries catalog.now.tables (flight write.now read.now)) }
+pub(crate) fn fresh_entries(alloc: Global, flight: &InFlight<'_>) -> Result<List<Bytes>, NoMem>
+    requires { MayFly flight.now }
+    ensures { IfOk result (λ keys. keys ≡ fresh_entries (tables_of flight.now) (seen_flight flight.now)) }
 {
-    let new = new_entries(alloc, catalog, write, read)?;
-    let old = old_entries(alloc, catalog, write, read)?;
+    let new = new_entries(alloc, flight)?;
+    let old = old_entries(alloc, flight)?;
     left_out(alloc, new.items(), old.items())
 }
 
 /// The entries that the old row has and the new one has not.
-pub(crate) fn stale_entries(
-    alloc: Global,
-    catalog: &Catalog,
-    write: &Write,
-    read: &Option<Bytes>,
-) -> Result<List<Bytes>, NoMem>
-    requires write { MayWrite catalog.now.tables write.now }
-    requires granted { IsGranted catalog.now.tables (flight write.now read.now) }
-    ensures { IfOk result (λ keys. keys ≡ stale_entries catalog.now.tables (flight write.now read.now)) }
+pub(crate) fn stale_entries(alloc: Global, flight: &InFlight<'_>) -> Result<List<Bytes>, NoMem>
+    requires { MayFly flight.now }
+    ensures { IfOk result (λ keys. keys ≡ stale_entries (tables_of flight.now) (seen_flight flight.now)) }
 {
-    let old = old_entries(alloc, catalog, write, read)?;
-    let new = new_entries(alloc, catalog, write, read)?;
+    let old = old_entries(alloc, flight)?;
+    let new = new_entries(alloc, flight)?;
     left_out(alloc, old.items(), new.items())
 }
 

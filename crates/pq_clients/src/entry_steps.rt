@@ -1,24 +1,24 @@
 //! The steps that add and remove an entry, each with its one call.
-ghost use Rattle.std.specs.Prelude.{Bool, [], ◌≡◌, ◌∷◌, ℕ, List as Items, IfOk};
+ghost use Rattle.std.specs.Prelude.{[], ◌≡◌, ◌∷◌, ℕ, List as Items, IfOk};
 ghost use Rattle.pq_schema.specs.declared.table.Table.{Table as Definition};
 ghost use Rattle.pq_store.specs.Content.{written_content};
 ghost use Rattle.pq_clients.specs.Clients.{Adding, Clearing, Undoing, Flying};
-ghost use Rattle.pq_clients.specs.Fitting.{MayWrite, IsLate};
-ghost use Rattle.pq_clients.specs.Flights.{Flight, IsGranted};
-ghost use Rattle.pq_clients.specs.Goes.{Goes, spot};
-ghost use Rattle.pq_clients.specs.Seen.{flight, seen_course};
+ghost use Rattle.pq_clients.specs.Fitting.{IsLate};
+ghost use Rattle.pq_clients.specs.Flights.{Flight};
+ghost use Rattle.pq_clients.specs.Goes.{Goes};
+ghost use Rattle.pq_clients.specs.Seen.{seen_course};
 ghost use Rattle.pq_clients.specs.Calling.{way};
-ghost use Rattle.pq_clients.specs.Steps.{On, adding, clearing, undoing, flown};
+ghost use Rattle.pq_clients.specs.Steps.{On, adding, clearing, undoing};
+ghost use Rattle.pq_clients.specs.InFlight.{tables_of, seen_flight, MayFly, spot_of, StepsFrom};
 
 use crate::calls::write_any;
 use crate::course::flying;
 use crate::entries::with_front;
+use crate::flight::InFlight;
 use crate::halt::Halt;
 use crate::next::{adding, clearing, undoing};
 use crate::stage::Course;
 use pq_base::{Bytes, NoMem, Refusal};
-use pq_index_keep::Write;
-use pq_schema::Catalog;
 use pq_store::{Meter, Store};
 use std::alloc::Global;
 use std::sync::ledger::Ledger;
@@ -33,8 +33,7 @@ fn write_entry<S: Store<L>, L: Ledger>(
     meter: &mut Meter<L>,
 ) -> Result<Course, Halt>
     ensures goes { (f : Flight) → Goes (seen_course f) (λ c. (written_content entry.now new.now c, seen_course f pass))
-        (spot (S.content store.old) (S.faults store.old) meter.old)
-        (spot (S.content store.new) (S.faults store.new) meter.new) result }
+        (spot_of S.Store store.old meter.old) (spot_of S.Store store.new meter.new) result }
     ensures way { IfOk result (λ course. (f : Flight) → seen_course f course ≡ seen_course f pass) }
 {
     match write_any(alloc, entry.items(), new, store, meter) {
@@ -56,8 +55,7 @@ fn write_empty<S: Store<L>, L: Ledger>(
 ) -> Result<Course, Halt>
     ensures goes { (f : Flight) → Goes (seen_course f)
         (λ c. (written_content entry.now (Some []) c, seen_course f pass))
-        (spot (S.content store.old) (S.faults store.old) meter.old)
-        (spot (S.content store.new) (S.faults store.new) meter.new) result }
+        (spot_of S.Store store.old meter.old) (spot_of S.Store store.new meter.new) result }
     ensures way { IfOk result (λ course. (f : Flight) → seen_course f course ≡ seen_course f pass) }
 {
     let new = Some(Bytes::new(alloc));
@@ -66,46 +64,37 @@ fn write_empty<S: Store<L>, L: Ledger>(
 
 fn add_led(
     alloc: Global,
-    catalog: &Catalog,
-    write: &Write,
-    read: &Option<Bytes>,
+    flight: &InFlight<'_>,
     entry: &Bytes,
     left: &[Bytes],
     added: &[Bytes],
 ) -> Result<Course, NoMem>
-    requires write { MayWrite catalog.now.tables write.now }
-    requires granted { IsGranted catalog.now.tables (flight write.now read.now) }
-    ensures { IfOk result (λ course. seen_course (flight write.now read.now) course
-        ≡ On (Flying (flight write.now read.now) (adding catalog.now.tables (flight write.now read.now) left.now
+    requires { MayFly flight.now }
+    ensures { IfOk result (λ course. seen_course (seen_flight flight.now) course
+        ≡ On (Flying (seen_flight flight.now) (adding (tables_of flight.now) (seen_flight flight.now) left.now
         (entry.now ∷ added.now)))) }
 {
     let added = with_front(alloc, entry, added)?;
-    let stage = adding(alloc, catalog, write, read, left, added)?;
+    let stage = adding(alloc, flight, left, added)?;
     Ok(flying(stage))
 }
 
 /// The add of an entry.
 pub(crate) fn add_step<S: Store<L>, L: Ledger>(
     alloc: Global,
-    catalog: &Catalog,
-    write: &Write,
-    read: &Option<Bytes>,
+    flight: &InFlight<'_>,
     entry: &Bytes,
     left: &[Bytes],
     added: &[Bytes],
     store: &mut S,
     meter: &mut Meter<L>,
 ) -> Result<Course, Halt>
-    requires write { MayWrite catalog.now.tables write.now }
-    requires granted { IsGranted catalog.now.tables (flight write.now read.now) }
-    ensures goes { (client number : ℕ) → Goes (seen_course (flight write.now read.now))
-        (flown catalog.now.tables client number (flight write.now read.now) (Adding entry.now left.now added.now))
-        (spot (S.content store.old) (S.faults store.old) meter.old)
-        (spot (S.content store.new) (S.faults store.new) meter.new) result }
-    ensures way { IfOk result (λ course. (b : Bool) × (seen_course (flight write.now read.now) course
-        ≡ way catalog.now.tables (flight write.now read.now) (Adding entry.now left.now added.now) b)) }
+    requires { MayFly flight.now }
+    ensures { (client number : ℕ) → StepsFrom (tables_of flight.now) client number flight.now.write.now
+        (Flying (seen_flight flight.now) (Adding entry.now left.now added.now)) (seen_flight flight.now)
+        (spot_of S.Store store.old meter.old) (spot_of S.Store store.new meter.new) result }
 {
-    match add_led(alloc, catalog, write, read, entry, left, added) {
+    match add_led(alloc, flight, entry, left, added) {
         Err(_) => Err(Halt::NoMem),
         Ok(pass) => write_empty(alloc, entry, pass, store, meter),
     }
@@ -126,12 +115,9 @@ pub(crate) fn clear_step<S: Store<L>, L: Ledger>(
     store: &mut S,
     meter: &mut Meter<L>,
 ) -> Result<Course, Halt>
-    ensures goes { (tables : Items Definition) (client number : ℕ) (f : Flight) → Goes (seen_course f)
-        (flown tables client number f (Clearing entry.now left.now))
-        (spot (S.content store.old) (S.faults store.old) meter.old)
-        (spot (S.content store.new) (S.faults store.new) meter.new) result }
-    ensures way { (tables : Items Definition) (f : Flight) → IfOk result (λ course. (b : Bool) × (seen_course f course
-        ≡ way tables f (Clearing entry.now left.now) b)) }
+    ensures { (tables : Items Definition) (client number : ℕ) (f : Flight)
+        → StepsFrom tables client number f.write (Flying f (Clearing entry.now left.now)) f
+        (spot_of S.Store store.old meter.old) (spot_of S.Store store.new meter.new) result }
 {
     match clear_led(alloc, left) {
         Err(_) => Err(Halt::NoMem),
@@ -182,12 +168,9 @@ pub(crate) fn undo_step<S: Store<L>, L: Ledger>(
     meter: &mut Meter<L>,
 ) -> Result<Course, Halt>
     requires { IsLate refusal.now }
-    ensures goes { (tables : Items Definition) (client number : ℕ) (f : Flight) → Goes (seen_course f)
-        (flown tables client number f (Undoing entry.now left.now refusal.now))
-        (spot (S.content store.old) (S.faults store.old) meter.old)
-        (spot (S.content store.new) (S.faults store.new) meter.new) result }
-    ensures way { (tables : Items Definition) (f : Flight) → IfOk result (λ course. (b : Bool) × (seen_course f course
-        ≡ way tables f (Undoing entry.now left.now refusal.now) b)) }
+    ensures { (tables : Items Definition) (client number : ℕ) (f : Flight)
+        → StepsFrom tables client number f.write (Flying f (Undoing entry.now left.now refusal.now)) f
+        (spot_of S.Store store.old meter.old) (spot_of S.Store store.new meter.new) result }
 {
     match undo_led(alloc, left, refusal) {
         Err(_) => Err(Halt::NoMem),

@@ -1,37 +1,29 @@
 //! The tests of limits of a write that holds its key, each with its one call.
-ghost use Rattle.std.specs.Prelude.{Bool, ◌≡◌, ◌≤◌, ◌+◌, ◌∷◌, ℕ, IfOk, nat_le, if◌then◌else◌};
+ghost use Rattle.std.specs.Prelude.{◌≡◌, ◌≤◌, ◌+◌, ◌∷◌, ℕ, IfOk, nat_le, if◌then◌else◌};
 ghost use Rattle.pq_clients.specs.Clients.{Testing, Flying};
-ghost use Rattle.pq_clients.specs.Fitting.{MayWrite, IsTest};
-ghost use Rattle.pq_clients.specs.Flights.{fresh_entries, test_refusal, IsGranted};
-ghost use Rattle.pq_clients.specs.Goes.{Goes, spot};
-ghost use Rattle.pq_clients.specs.Seen.{flight, seen_course};
-ghost use Rattle.pq_clients.specs.Calling.{way};
-ghost use Rattle.pq_clients.specs.Steps.{On, counted, has_room, testing, undoing, flown};
+ghost use Rattle.pq_clients.specs.Fitting.{IsTest};
+ghost use Rattle.pq_clients.specs.Flights.{Flight, fresh_entries, test_refusal};
+ghost use Rattle.pq_clients.specs.Goes.{Goes};
+ghost use Rattle.pq_clients.specs.Seen.{seen_course};
+ghost use Rattle.pq_clients.specs.Steps.{On, counted, has_room, testing, undoing};
+ghost use Rattle.pq_clients.specs.InFlight.{tables_of, seen_flight, MayFly, spot_of, StepsFrom};
 
 use crate::calls::count_pairs;
 use crate::course::{flying, in_memory};
+use crate::flight::InFlight;
 use crate::halt::Halt;
 use crate::limits::{test_refusal, tested_front, tested_n};
-use crate::next::{refused, testing, undoing, with_place};
+use crate::next::{refused, testing, with_place};
 use crate::stage::Course;
-use pq_base::{Bytes, NoMem};
-use pq_index_keep::Write;
-use pq_schema::Catalog;
+use pq_base::NoMem;
 use pq_store::{Meter, Store};
 use std::alloc::Global;
 use std::sync::ledger::Ledger;
 
 /// The group has room.
-fn roomy_led(
-    alloc: Global,
-    write: &Write,
-    read: &Option<Bytes>,
-    place: usize,
-    left: &[usize],
-    passed: &[usize],
-) -> Result<Course, NoMem>
-    ensures { IfOk result (λ course. seen_course (flight write.now read.now) course
-        ≡ On (Flying (flight write.now read.now) (testing left.now (place ∷ passed.now)))) }
+fn roomy_led(alloc: Global, place: usize, left: &[usize], passed: &[usize]) -> Result<Course, NoMem>
+    ensures { IfOk result (λ course. (f : Flight) → seen_course f course
+        ≡ On (Flying f (testing left.now (place ∷ passed.now)))) }
 {
     let all = with_place(alloc, place, passed)?;
     let stage = testing(alloc, left, all)?;
@@ -39,74 +31,60 @@ fn roomy_led(
 }
 
 /// It has none.
-fn full_led(
-    alloc: Global,
-    catalog: &Catalog,
-    write: &Write,
-    read: &Option<Bytes>,
-    place: usize,
-) -> Result<Course, NoMem>
-    requires write { MayWrite catalog.now.tables write.now }
-    requires granted { IsGranted catalog.now.tables (flight write.now read.now) }
-    requires place { IsTest catalog.now.tables (flight write.now read.now) place }
-    ensures { IfOk result (λ course. seen_course (flight write.now read.now) course
-        ≡ On (Flying (flight write.now read.now)
-        (undoing (fresh_entries catalog.now.tables (flight write.now read.now))
-        (test_refusal catalog.now.tables (flight write.now read.now) place)))) }
+fn full_led(alloc: Global, flight: &InFlight<'_>, place: usize) -> Result<Course, NoMem>
+    requires write { MayFly flight.now }
+    requires place { IsTest (tables_of flight.now) (seen_flight flight.now) place }
+    ensures { IfOk result (λ course. seen_course (seen_flight flight.now) course
+        ≡ On (Flying (seen_flight flight.now)
+        (undoing (fresh_entries (tables_of flight.now) (seen_flight flight.now))
+        (test_refusal (tables_of flight.now) (seen_flight flight.now) place)))) }
 {
-    let refusal = test_refusal(alloc, catalog, write, place)?;
-    let stage = refused(alloc, catalog, write, read, refusal)?;
+    let refusal = test_refusal(alloc, flight.catalog, flight.write, place)?;
+    let stage = refused(alloc, flight, refusal)?;
     Ok(flying(stage))
 }
 
 fn test_led(
     alloc: Global,
-    catalog: &Catalog,
-    write: &Write,
-    read: &Option<Bytes>,
+    flight: &InFlight<'_>,
     place: usize,
     left: &[usize],
     passed: &[usize],
     room: bool,
 ) -> Result<Course, NoMem>
-    requires write { MayWrite catalog.now.tables write.now }
-    requires granted { IsGranted catalog.now.tables (flight write.now read.now) }
-    requires place { IsTest catalog.now.tables (flight write.now read.now) place }
-    ensures { IfOk result (λ course. seen_course (flight write.now read.now) course
-        ≡ (if room then On (Flying (flight write.now read.now) (testing left.now (place ∷ passed.now)))
-        else On (Flying (flight write.now read.now)
-        (undoing (fresh_entries catalog.now.tables (flight write.now read.now))
-        (test_refusal catalog.now.tables (flight write.now read.now) place))))) }
+    requires write { MayFly flight.now }
+    requires place { IsTest (tables_of flight.now) (seen_flight flight.now) place }
+    ensures { IfOk result (λ course. seen_course (seen_flight flight.now) course
+        ≡ (if room then On (Flying (seen_flight flight.now) (testing left.now (place ∷ passed.now)))
+        else On (Flying (seen_flight flight.now)
+        (undoing (fresh_entries (tables_of flight.now) (seen_flight flight.now))
+        (test_refusal (tables_of flight.now) (seen_flight flight.now) place))))) }
 {
     if room {
-        return roomy_led(alloc, write, read, place, left, passed);
+        return roomy_led(alloc, place, left, passed);
     }
-    full_led(alloc, catalog, write, read, place)
+    full_led(alloc, flight, place)
 }
 
 /// Whether the group has room.
 fn has_room<S: Store<L>, L: Ledger>(
     alloc: Global,
-    catalog: &Catalog,
-    write: &Write,
-    read: &Option<Bytes>,
+    flight: &InFlight<'_>,
     place: usize,
     store: &mut S,
     meter: &mut Meter<L>,
 ) -> Result<bool, Halt>
-    requires write { MayWrite catalog.now.tables write.now }
-    requires granted { IsGranted catalog.now.tables (flight write.now read.now) }
-    requires place { IsTest catalog.now.tables (flight write.now read.now) place }
-    ensures { Goes (λ room. room) (λ c. (c, has_room catalog.now.tables (flight write.now read.now) place c))
-        (spot (S.content store.old) (S.faults store.old) meter.old)
-        (spot (S.content store.new) (S.faults store.new) meter.new) result }
+    requires write { MayFly flight.now }
+    requires place { IsTest (tables_of flight.now) (seen_flight flight.now) place }
+    ensures { Goes (λ room. room) (λ c. (c, has_room (tables_of flight.now) (seen_flight flight.now) place c))
+        (spot_of S.Store store.old meter.old) (spot_of S.Store store.new meter.new) result }
 {
-    match tested_front(alloc, catalog, write, read, place) {
+    match tested_front(alloc, flight, place) {
         Err(_) => Err(Halt::NoMem),
         Ok(front) => has_few(
             alloc,
             front.items(),
-            tested_n(catalog, write, place),
+            tested_n(flight.catalog, flight.write, place),
             store,
             meter,
         ),
@@ -122,8 +100,7 @@ fn has_few<S: Store<L>, L: Ledger>(
 ) -> Result<bool, Halt>
     requires { most ≤ 10000 }
     ensures { Goes (λ room. room) (λ c. (c, nat_le (counted c front.now (most + 1)) most))
-        (spot (S.content store.old) (S.faults store.old) meter.old)
-        (spot (S.content store.new) (S.faults store.new) meter.new) result }
+        (spot_of S.Store store.old meter.old) (spot_of S.Store store.new meter.new) result }
 {
     match count_pairs(alloc, front, most + 1, store, meter) {
         Err(halt) => Err(halt),
@@ -134,27 +111,21 @@ fn has_few<S: Store<L>, L: Ledger>(
 /// A test of a limit.
 pub(crate) fn test_step<S: Store<L>, L: Ledger>(
     alloc: Global,
-    catalog: &Catalog,
-    write: &Write,
-    read: &Option<Bytes>,
+    flight: &InFlight<'_>,
     place: usize,
     left: &[usize],
     passed: &[usize],
     store: &mut S,
     meter: &mut Meter<L>,
 ) -> Result<Course, Halt>
-    requires write { MayWrite catalog.now.tables write.now }
-    requires granted { IsGranted catalog.now.tables (flight write.now read.now) }
-    requires place { IsTest catalog.now.tables (flight write.now read.now) place }
-    ensures goes { (client number : ℕ) → Goes (seen_course (flight write.now read.now))
-        (flown catalog.now.tables client number (flight write.now read.now) (Testing place left.now passed.now))
-        (spot (S.content store.old) (S.faults store.old) meter.old)
-        (spot (S.content store.new) (S.faults store.new) meter.new) result }
-    ensures way { IfOk result (λ course. (b : Bool) × (seen_course (flight write.now read.now) course
-        ≡ way catalog.now.tables (flight write.now read.now) (Testing place left.now passed.now) b)) }
+    requires write { MayFly flight.now }
+    requires place { IsTest (tables_of flight.now) (seen_flight flight.now) place }
+    ensures { (client number : ℕ) → StepsFrom (tables_of flight.now) client number flight.now.write.now
+        (Flying (seen_flight flight.now) (Testing place left.now passed.now)) (seen_flight flight.now)
+        (spot_of S.Store store.old meter.old) (spot_of S.Store store.new meter.new) result }
 {
-    match has_room(alloc, catalog, write, read, place, store, meter) {
+    match has_room(alloc, flight, place, store, meter) {
         Err(halt) => Err(halt),
-        Ok(room) => in_memory(test_led(alloc, catalog, write, read, place, left, passed, room)),
+        Ok(room) => in_memory(test_led(alloc, flight, place, left, passed, room)),
     }
 }

@@ -8,10 +8,11 @@ ghost use Rattle.pq_content.specs.Tables.{cells};
 ghost use Rattle.pq_index_keep.specs.Effects.{stays, limit_at, no_room};
 ghost use Rattle.pq_row_keys.specs.Groups.{group_key};
 ghost use Rattle.pq_clients.specs.Fitting.{MayWrite, IsMadeTable, HasColumns, IsTest, IsLate};
-ghost use Rattle.pq_clients.specs.Flights.{table_of, is_tested, limit_tests, tests_of, flight_tests, tested_front, IsGranted};
-ghost use Rattle.pq_clients.specs.Seen.{flight};
+ghost use Rattle.pq_clients.specs.Flights.{table_of, is_tested, limit_tests, tests_of, flight_tests, tested_front};
+ghost use Rattle.pq_clients.specs.InFlight.{tables_of, seen_flight, MayFly};
 
 use crate::checks::{is_tested, known_write};
+use crate::flight::InFlight;
 use crate::rows::{new_row, old_row, table_number, table_of};
 use pq_base::{Bytes, List, NoMem, Refusal, Row};
 use pq_index_keep::{Write, no_room, stays};
@@ -70,24 +71,25 @@ fn put_tests(
     Ok(())
 }
 
-fn tests_of(
-    alloc: Global,
-    catalog: &Catalog,
-    write: &Write,
-    read: &Option<Bytes>,
-    new: &Option<Row>,
-) -> Result<List<usize>, NoMem>
-    requires { MayWrite catalog.now.tables write.now }
-    ensures { IfOk result (λ places. places ≡ tests_of catalog.now.tables (flight write.now read.now) new.now) }
+fn tests_of(alloc: Global, flight: &InFlight<'_>, new: &Option<Row>) -> Result<List<usize>, NoMem>
+    requires { MayWrite (tables_of flight.now) flight.now.write.now }
+    ensures { IfOk result (λ places. places ≡ tests_of (tables_of flight.now) (seen_flight flight.now) new.now) }
 {
     let mut places = List::new(alloc);
     match new {
         None => Ok(places),
         Some(row) => {
-            known_write(catalog, write);
-            let old = old_row(alloc, catalog, write, read)?;
-            let table = table_of(catalog, write);
-            put_tests(alloc, write, &old, row, table.limits.items(), &mut places)?;
+            known_write(flight.catalog, flight.write);
+            let old = old_row(alloc, flight)?;
+            let table = table_of(flight.catalog, flight.write);
+            put_tests(
+                alloc,
+                flight.write,
+                &old,
+                row,
+                table.limits.items(),
+                &mut places,
+            )?;
             Ok(places)
         }
     }
@@ -95,18 +97,12 @@ fn tests_of(
 
 /// The places of the limits that the write tests.
 #[tactic(auto, unfolding(crate::specs::Flights::flight_tests))]
-pub(crate) fn flight_tests(
-    alloc: Global,
-    catalog: &Catalog,
-    write: &Write,
-    read: &Option<Bytes>,
-) -> Result<List<usize>, NoMem>
-    requires write { MayWrite catalog.now.tables write.now }
-    requires granted { IsGranted catalog.now.tables (flight write.now read.now) }
-    ensures { IfOk result (λ places. places ≡ flight_tests catalog.now.tables (flight write.now read.now)) }
+pub(crate) fn flight_tests(alloc: Global, flight: &InFlight<'_>) -> Result<List<usize>, NoMem>
+    requires { MayFly flight.now }
+    ensures { IfOk result (λ places. places ≡ flight_tests (tables_of flight.now) (seen_flight flight.now)) }
 {
-    let new = new_row(alloc, catalog, write, read)?;
-    tests_of(alloc, catalog, write, read, &new)
+    let new = new_row(alloc, flight)?;
+    tests_of(alloc, flight, &new)
 }
 
 /// The beginning of the keys of the rows of a table that agree with a row at a limit's columns.
@@ -143,22 +139,19 @@ fn limit_of(table: &Table, place: usize) -> &Limit
 #[tactic(auto, unfolding(crate::specs::Flights::tested_front, crate::specs::Flights::group_front))]
 pub(crate) fn tested_front(
     alloc: Global,
-    catalog: &Catalog,
-    write: &Write,
-    read: &Option<Bytes>,
+    flight: &InFlight<'_>,
     place: usize,
 ) -> Result<Bytes, NoMem>
-    requires write { MayWrite catalog.now.tables write.now }
-    requires granted { IsGranted catalog.now.tables (flight write.now read.now) }
-    requires place { IsTest catalog.now.tables (flight write.now read.now) place }
-    ensures { IfOk result (λ front. front ≡ tested_front catalog.now.tables (flight write.now read.now) place) }
+    requires write { MayFly flight.now }
+    requires place { IsTest (tables_of flight.now) (seen_flight flight.now) place }
+    ensures { IfOk result (λ front. front ≡ tested_front (tables_of flight.now) (seen_flight flight.now) place) }
 {
-    match new_row(alloc, catalog, write, read)? {
+    match new_row(alloc, flight)? {
         None => Ok(Bytes::new(alloc)),
         Some(row) => front_at(
             alloc,
-            table_number(write),
-            table_of(catalog, write),
+            table_number(flight.write),
+            table_of(flight.catalog, flight.write),
             place,
             &row,
         ),

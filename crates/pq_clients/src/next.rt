@@ -1,17 +1,16 @@
 //! From one kind of step to the next one that there is.
 ghost use Rattle.std.specs.Prelude.{◌≡◌, ◌∷◌, [], map, IfOk};
-ghost use Rattle.pq_clients.specs.Fitting.{MayWrite};
-ghost use Rattle.pq_clients.specs.Seen.{flight, seen_check, seen_stage};
+ghost use Rattle.pq_clients.specs.Seen.{seen_check, seen_stage};
 ghost use Rattle.pq_clients.specs.Steps.{testing, adding, checking, clearing, undoing};
-ghost use Rattle.pq_clients.specs.Flights.{fresh_entries, stale_entries, flight_checks, flight_tests, IsGranted};
+ghost use Rattle.pq_clients.specs.Flights.{fresh_entries, stale_entries, flight_checks, flight_tests};
+ghost use Rattle.pq_clients.specs.InFlight.{tables_of, seen_flight, MayFly};
 
 use crate::checks::{copy_check, copy_checks, flight_checks};
 use crate::entries::{copy_key, copy_keys, fresh_entries, stale_entries};
+use crate::flight::InFlight;
 use crate::limits::flight_tests;
 use crate::stage::{Check, Stage};
 use pq_base::{Bytes, List, NoMem, Refusal};
-use pq_index_keep::Write;
-use pq_schema::Catalog;
 use std::alloc::Global;
 
 fn copy_places(alloc: Global, places: &[usize]) -> Result<List<usize>, NoMem>
@@ -58,37 +57,28 @@ pub(crate) fn testing(alloc: Global, left: &[usize], passed: List<usize>) -> Res
 }
 
 /// The first step behind the adds.
-fn added_all(
-    alloc: Global,
-    catalog: &Catalog,
-    write: &Write,
-    read: &Option<Bytes>,
-) -> Result<Stage, NoMem>
-    requires write { MayWrite catalog.now.tables write.now }
-    requires granted { IsGranted catalog.now.tables (flight write.now read.now) }
+fn added_all(alloc: Global, flight: &InFlight<'_>) -> Result<Stage, NoMem>
+    requires { MayFly flight.now }
     ensures { IfOk result (λ stage. seen_stage stage
-        ≡ testing (flight_tests catalog.now.tables (flight write.now read.now)) []) }
+        ≡ testing (flight_tests (tables_of flight.now) (seen_flight flight.now)) []) }
 {
-    let places = flight_tests(alloc, catalog, write, read)?;
+    let places = flight_tests(alloc, flight)?;
     testing(alloc, places.items(), List::new(alloc))
 }
 
 /// The add of the first of these entries, or what comes behind.
 pub(crate) fn adding(
     alloc: Global,
-    catalog: &Catalog,
-    write: &Write,
-    read: &Option<Bytes>,
+    flight: &InFlight<'_>,
     left: &[Bytes],
     added: List<Bytes>,
 ) -> Result<Stage, NoMem>
-    requires write { MayWrite catalog.now.tables write.now }
-    requires granted { IsGranted catalog.now.tables (flight write.now read.now) }
+    requires { MayFly flight.now }
     ensures { IfOk result (λ stage. seen_stage stage
-        ≡ adding catalog.now.tables (flight write.now read.now) left.now added) }
+        ≡ adding (tables_of flight.now) (seen_flight flight.now) left.now added) }
 {
     match left.split_first() {
-        None => added_all(alloc, catalog, write, read),
+        None => added_all(alloc, flight),
         Some((entry, rest)) => {
             let entry = copy_key(alloc, entry)?;
             let left = copy_keys(alloc, rest)?;
@@ -98,43 +88,23 @@ pub(crate) fn adding(
 }
 
 /// The first step behind the tests of parents and children.
-fn checked_all(
-    alloc: Global,
-    catalog: &Catalog,
-    write: &Write,
-    read: &Option<Bytes>,
-) -> Result<Stage, NoMem>
-    requires write { MayWrite catalog.now.tables write.now }
-    requires granted { IsGranted catalog.now.tables (flight write.now read.now) }
-    ensures { IfOk result (λ stage. seen_stage stage ≡ adding catalog.now.tables (flight write.now read.now)
-        (fresh_entries catalog.now.tables (flight write.now read.now)) []) }
+fn checked_all(alloc: Global, flight: &InFlight<'_>) -> Result<Stage, NoMem>
+    requires { MayFly flight.now }
+    ensures { IfOk result (λ stage. seen_stage stage ≡ adding (tables_of flight.now) (seen_flight flight.now)
+        (fresh_entries (tables_of flight.now) (seen_flight flight.now)) []) }
 {
-    let entries = fresh_entries(alloc, catalog, write, read)?;
-    adding(
-        alloc,
-        catalog,
-        write,
-        read,
-        entries.items(),
-        List::new(alloc),
-    )
+    let entries = fresh_entries(alloc, flight)?;
+    adding(alloc, flight, entries.items(), List::new(alloc))
 }
 
 /// The first of these tests of parents or children, or what comes behind.
-pub(crate) fn checking(
-    alloc: Global,
-    catalog: &Catalog,
-    write: &Write,
-    read: &Option<Bytes>,
-    left: &[Check],
-) -> Result<Stage, NoMem>
-    requires write { MayWrite catalog.now.tables write.now }
-    requires granted { IsGranted catalog.now.tables (flight write.now read.now) }
+pub(crate) fn checking(alloc: Global, flight: &InFlight<'_>, left: &[Check]) -> Result<Stage, NoMem>
+    requires { MayFly flight.now }
     ensures { IfOk result (λ stage. seen_stage stage
-        ≡ checking catalog.now.tables (flight write.now read.now) (map seen_check left.now)) }
+        ≡ checking (tables_of flight.now) (seen_flight flight.now) (map seen_check left.now)) }
 {
     match left.split_first() {
-        None => checked_all(alloc, catalog, write, read),
+        None => checked_all(alloc, flight),
         Some((check, rest)) => {
             let check = copy_check(alloc, check)?;
             let left = copy_checks(alloc, rest)?;
@@ -144,19 +114,13 @@ pub(crate) fn checking(
 }
 
 /// The first step behind the take.
-pub(crate) fn taken(
-    alloc: Global,
-    catalog: &Catalog,
-    write: &Write,
-    read: &Option<Bytes>,
-) -> Result<Stage, NoMem>
-    requires write { MayWrite catalog.now.tables write.now }
-    requires granted { IsGranted catalog.now.tables (flight write.now read.now) }
-    ensures { IfOk result (λ stage. seen_stage stage ≡ checking catalog.now.tables (flight write.now read.now)
-        (flight_checks catalog.now.tables (flight write.now read.now))) }
+pub(crate) fn taken(alloc: Global, flight: &InFlight<'_>) -> Result<Stage, NoMem>
+    requires { MayFly flight.now }
+    ensures { IfOk result (λ stage. seen_stage stage ≡ checking (tables_of flight.now) (seen_flight flight.now)
+        (flight_checks (tables_of flight.now) (seen_flight flight.now))) }
 {
-    let checks = flight_checks(alloc, catalog, write, read)?;
-    checking(alloc, catalog, write, read, checks.items())
+    let checks = flight_checks(alloc, flight)?;
+    checking(alloc, flight, checks.items())
 }
 
 /// The removal of the first of these entries, or the free.
@@ -174,18 +138,12 @@ pub(crate) fn clearing(alloc: Global, left: &[Bytes]) -> Result<Stage, NoMem>
 }
 
 /// The first step behind the put.
-pub(crate) fn put(
-    alloc: Global,
-    catalog: &Catalog,
-    write: &Write,
-    read: &Option<Bytes>,
-) -> Result<Stage, NoMem>
-    requires write { MayWrite catalog.now.tables write.now }
-    requires granted { IsGranted catalog.now.tables (flight write.now read.now) }
+pub(crate) fn put(alloc: Global, flight: &InFlight<'_>) -> Result<Stage, NoMem>
+    requires { MayFly flight.now }
     ensures { IfOk result (λ stage. seen_stage stage
-        ≡ clearing (stale_entries catalog.now.tables (flight write.now read.now))) }
+        ≡ clearing (stale_entries (tables_of flight.now) (seen_flight flight.now))) }
 {
-    let entries = stale_entries(alloc, catalog, write, read)?;
+    let entries = stale_entries(alloc, flight)?;
     clearing(alloc, entries.items())
 }
 
@@ -210,16 +168,13 @@ pub(crate) fn undoing(alloc: Global, left: &[Bytes], refusal: Refusal) -> Result
 /// After the refusal of a test the first step that undoes.
 pub(crate) fn refused(
     alloc: Global,
-    catalog: &Catalog,
-    write: &Write,
-    read: &Option<Bytes>,
+    flight: &InFlight<'_>,
     refusal: Refusal,
 ) -> Result<Stage, NoMem>
-    requires write { MayWrite catalog.now.tables write.now }
-    requires granted { IsGranted catalog.now.tables (flight write.now read.now) }
+    requires { MayFly flight.now }
     ensures { IfOk result (λ stage. seen_stage stage
-        ≡ undoing (fresh_entries catalog.now.tables (flight write.now read.now)) refusal) }
+        ≡ undoing (fresh_entries (tables_of flight.now) (seen_flight flight.now)) refusal) }
 {
-    let entries = fresh_entries(alloc, catalog, write, read)?;
+    let entries = fresh_entries(alloc, flight)?;
     undoing(alloc, entries.items(), refusal)
 }

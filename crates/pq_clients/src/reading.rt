@@ -8,15 +8,17 @@ ghost use Rattle.pq_index_keep.specs.declared.write.Write.{Write as Written};
 ghost use Rattle.pq_clients.specs.declared.outcome.Outcome.{Outcome};
 ghost use Rattle.pq_clients.specs.Fitting.{MayWrite, IsUpdateOf};
 ghost use Rattle.pq_clients.specs.Flights.{Flight, table_of, pair_key, row_refusal};
-ghost use Rattle.pq_clients.specs.Goes.{Goes, spot};
+ghost use Rattle.pq_clients.specs.Goes.{Goes};
 ghost use Rattle.pq_clients.specs.Held.{cell_of, is_held_value, decoded_row};
 ghost use Rattle.pq_clients.specs.Seen.{flight, seen_course};
-ghost use Rattle.pq_clients.specs.Clients.{Taking};
+ghost use Rattle.pq_clients.specs.Clients.{Looking, Reading, Taking};
 ghost use Rattle.pq_clients.specs.Steps.{Ends, On, or_refused, taking_short, after_row, after_code, after_cell, after_read, damaged, refused};
+ghost use Rattle.pq_clients.specs.InFlight.{tables_of, seen_flight, spot_of, StepsFrom};
 
 use crate::calls::get_pair;
 use crate::course::in_memory;
 use crate::entries::copy_found;
+use crate::flight::InFlight;
 use crate::halt::Halt;
 use crate::held::{is_held_by_other, is_held_value};
 use crate::rows::{code_len, decoded_row, pair_key, row_refusal, table_of, updated};
@@ -242,12 +244,9 @@ fn read_at<S: Store<L>, L: Ledger>(
 ) -> Result<Course, Halt>
     requires write { MayWrite catalog.now.tables write.now }
     requires key { key ≡ pair_key catalog.now.tables write.now }
-    ensures goes { (before : Option (Items ℕ)) → Goes (seen_course (flight write.now before))
-        (λ c. (c, after_read catalog.now.tables client write.now (get c (pair_key catalog.now.tables write.now))))
-        (spot (S.content store.old) (S.faults store.old) meter.old)
-        (spot (S.content store.new) (S.faults store.new) meter.new) result }
-    ensures way { (before : Option (Items ℕ)) → IfOk result (λ course. (found : Option (Items ℕ))
-        × (seen_course (flight write.now before) course ≡ after_read catalog.now.tables client write.now found)) }
+    ensures { (number : ℕ) (before : Option (Items ℕ)) → StepsFrom catalog.now.tables client number write.now Reading
+        (flight write.now before)
+        (spot_of S.Store store.old meter.old) (spot_of S.Store store.new meter.new) result }
 {
     match get_pair(alloc, key.items(), store, meter) {
         Err(halt) => Err(halt),
@@ -265,12 +264,9 @@ pub(crate) fn read<S: Store<L>, L: Ledger>(
     meter: &mut Meter<L>,
 ) -> Result<Course, Halt>
     requires write { MayWrite catalog.now.tables write.now }
-    ensures goes { (before : Option (Items ℕ)) → Goes (seen_course (flight write.now before))
-        (λ c. (c, after_read catalog.now.tables client write.now (get c (pair_key catalog.now.tables write.now))))
-        (spot (S.content store.old) (S.faults store.old) meter.old)
-        (spot (S.content store.new) (S.faults store.new) meter.new) result }
-    ensures way { (before : Option (Items ℕ)) → IfOk result (λ course. (found : Option (Items ℕ))
-        × (seen_course (flight write.now before) course ≡ after_read catalog.now.tables client write.now found)) }
+    ensures { (number : ℕ) (before : Option (Items ℕ)) → StepsFrom catalog.now.tables client number write.now Reading
+        (flight write.now before)
+        (spot_of S.Store store.old meter.old) (spot_of S.Store store.new meter.new) result }
 {
     match pair_key(alloc, catalog, write) {
         Err(_) => Err(Halt::NoMem),
@@ -286,8 +282,7 @@ fn look_at<S: Store<L>, L: Ledger>(
     meter: &mut Meter<L>,
 ) -> Result<Course, Halt>
     ensures goes { (f : Flight) → Goes (seen_course f) (λ c. (c, Ends (Outcome.Conflict read (get c key.now))))
-        (spot (S.content store.old) (S.faults store.old) meter.old)
-        (spot (S.content store.new) (S.faults store.new) meter.new) result }
+        (spot_of S.Store store.old meter.old) (spot_of S.Store store.new meter.new) result }
     ensures way { (f : Flight) → IfOk result (λ course. (found : Option (Items ℕ))
         × (seen_course f course ≡ Ends (Outcome.Conflict read found))) }
 {
@@ -302,41 +297,28 @@ fn look_at<S: Store<L>, L: Ledger>(
     }
 }
 
-fn look_by(
-    alloc: Global,
-    catalog: &Catalog,
-    write: &Write,
-    read: &Option<Bytes>,
-) -> Result<(Bytes, Option<Bytes>), NoMem>
-    requires { MayWrite catalog.now.tables write.now }
-    ensures { IfOk result (λ made. (made.0 ≡ pair_key catalog.now.tables write.now) × (made.1 ≡ read.now)) }
+fn look_by(alloc: Global, flight: &InFlight<'_>) -> Result<(Bytes, Option<Bytes>), NoMem>
+    requires { MayWrite (tables_of flight.now) flight.now.write.now }
+    ensures { IfOk result (λ made. (made.0 ≡ pair_key (tables_of flight.now) flight.now.write.now) × (made.1 ≡ flight.now.read.now)) }
 {
-    let key = pair_key(alloc, catalog, write)?;
-    let copy = copy_found(alloc, read)?;
+    let key = pair_key(alloc, flight.catalog, flight.write)?;
+    let copy = copy_found(alloc, flight.read)?;
     Ok((key, copy))
 }
 
 /// The get after a take that answered false.
 pub(crate) fn look<S: Store<L>, L: Ledger>(
     alloc: Global,
-    catalog: &Catalog,
-    write: &Write,
-    read: &Option<Bytes>,
+    flight: &InFlight<'_>,
     store: &mut S,
     meter: &mut Meter<L>,
 ) -> Result<Course, Halt>
-    requires { MayWrite catalog.now.tables write.now }
-    ensures goes { (f : Flight) → Goes (seen_course f) (λ c. (
-      c,
-      Ends (Outcome.Conflict read.now
-          (get c (pair_key catalog.now.tables write.now))),
-    ))
-        (spot (S.content store.old) (S.faults store.old) meter.old)
-        (spot (S.content store.new) (S.faults store.new) meter.new) result }
-    ensures way { (f : Flight) → IfOk result (λ course. (found : Option (Items ℕ))
-        × (seen_course f course ≡ Ends (Outcome.Conflict read.now found))) }
+    requires { MayWrite (tables_of flight.now) flight.now.write.now }
+    ensures { (client number : ℕ) (f : Flight) → StepsFrom (tables_of flight.now) client number flight.now.write.now
+        (Looking (seen_flight flight.now)) f
+        (spot_of S.Store store.old meter.old) (spot_of S.Store store.new meter.new) result }
 {
-    match look_by(alloc, catalog, write, read) {
+    match look_by(alloc, flight) {
         Err(_) => Err(Halt::NoMem),
         Ok((key, copy)) => look_at(alloc, &key, copy, store, meter),
     }

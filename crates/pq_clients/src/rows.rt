@@ -7,10 +7,11 @@ ghost use Rattle.pq_key_code.specs.KeyCode.{IsBytes};
 ghost use Rattle.pq_row_code.specs.StoredRow.{filled_decoded};
 ghost use Rattle.pq_index_keep.specs.Tested.{with_sets};
 ghost use Rattle.pq_clients.specs.Fitting.{MayWrite, IsMadeTable, IsUpdateOf};
-ghost use Rattle.pq_clients.specs.Flights.{table_of, table_number, pair_key, row_made, row_refusal, old_row, new_row, new_code, IsGranted};
+ghost use Rattle.pq_clients.specs.Flights.{table_of, table_number, pair_key, row_made, row_refusal, old_row, new_row, new_code};
 ghost use Rattle.pq_clients.specs.Held.{decoded_row};
-ghost use Rattle.pq_clients.specs.Seen.{flight};
+ghost use Rattle.pq_clients.specs.InFlight.{tables_of, seen_flight, MayFly};
 
+use crate::flight::InFlight;
 use pq_base::{Bytes, ColType, List, NoMem, Refusal, Row, Value, known_types};
 use pq_calls::types_of;
 use pq_index_keep::{SetCol, Write, condition_refusal, held_refusal, with_sets};
@@ -91,19 +92,14 @@ pub(crate) fn pair_key(alloc: Global, catalog: &Catalog, write: &Write) -> Resul
 
 /// The row that was read.
 #[tactic(auto, unfolding(crate::specs::Flights::old_row))]
-pub(crate) fn old_row(
-    alloc: Global,
-    catalog: &Catalog,
-    write: &Write,
-    read: &Option<Bytes>,
-) -> Result<Option<Row>, NoMem>
-    requires { MayWrite catalog.now.tables write.now }
-    ensures row { IfOk result (λ row. row ≡ old_row catalog.now.tables (flight write.now read.now)) }
-    ensures fits { IfOk result (λ row. IfSome row (AllFit (types_of (table_of catalog.now.tables write.now)))) }
+pub(crate) fn old_row(alloc: Global, flight: &InFlight<'_>) -> Result<Option<Row>, NoMem>
+    requires { MayWrite (tables_of flight.now) flight.now.write.now }
+    ensures row { IfOk result (λ row. row ≡ old_row (tables_of flight.now) (seen_flight flight.now)) }
+    ensures fits { IfOk result (λ row. IfSome row (AllFit (types_of (table_of (tables_of flight.now) flight.now.write.now)))) }
 {
-    match read {
+    match flight.read {
         None => Ok(None),
-        Some(code) => decoded_row(alloc, table_of(catalog, write), code.items()),
+        Some(code) => decoded_row(alloc, table_of(flight.catalog, flight.write), code.items()),
     }
 }
 
@@ -171,19 +167,13 @@ pub(crate) fn row_made(
 
 /// The row that is to be put.
 #[tactic(auto, unfolding(crate::specs::Flights::new_row))]
-pub(crate) fn new_row(
-    alloc: Global,
-    catalog: &Catalog,
-    write: &Write,
-    read: &Option<Bytes>,
-) -> Result<Option<Row>, NoMem>
-    requires write { MayWrite catalog.now.tables write.now }
-    requires granted { IsGranted catalog.now.tables (flight write.now read.now) }
-    ensures row { IfOk result (λ row. row ≡ new_row catalog.now.tables (flight write.now read.now)) }
-    ensures fits { IfOk result (λ row. IfSome row (AllFit (types_of (table_of catalog.now.tables write.now)))) }
+pub(crate) fn new_row(alloc: Global, flight: &InFlight<'_>) -> Result<Option<Row>, NoMem>
+    requires { MayFly flight.now }
+    ensures row { IfOk result (λ row. row ≡ new_row (tables_of flight.now) (seen_flight flight.now)) }
+    ensures fits { IfOk result (λ row. IfSome row (AllFit (types_of (table_of (tables_of flight.now) flight.now.write.now)))) }
 {
-    let old = old_row(alloc, catalog, write, read)?;
-    row_made(alloc, catalog, write, &old)
+    let old = old_row(alloc, flight)?;
+    row_made(alloc, flight.catalog, flight.write, &old)
 }
 
 /// The code of a row that fits its table.
@@ -224,16 +214,10 @@ fn code_of(
 
 /// The code of the row that is to be put.
 #[tactic(auto, unfolding(crate::specs::Flights::new_code))]
-pub(crate) fn new_code(
-    alloc: Global,
-    catalog: &Catalog,
-    write: &Write,
-    read: &Option<Bytes>,
-) -> Result<Option<Bytes>, NoMem>
-    requires write { MayWrite catalog.now.tables write.now }
-    requires granted { IsGranted catalog.now.tables (flight write.now read.now) }
-    ensures { IfOk result (λ code. code ≡ new_code catalog.now.tables (flight write.now read.now)) }
+pub(crate) fn new_code(alloc: Global, flight: &InFlight<'_>) -> Result<Option<Bytes>, NoMem>
+    requires { MayFly flight.now }
+    ensures { IfOk result (λ code. code ≡ new_code (tables_of flight.now) (seen_flight flight.now)) }
 {
-    let new = new_row(alloc, catalog, write, read)?;
-    code_of(alloc, catalog, write, &new)
+    let new = new_row(alloc, flight)?;
+    code_of(alloc, flight.catalog, flight.write, &new)
 }

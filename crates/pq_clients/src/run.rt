@@ -7,8 +7,9 @@ ghost use Rattle.pq_clients.specs.Goes.{spot};
 ghost use Rattle.pq_clients.specs.Promised.{RunsAsPromised};
 ghost use Rattle.pq_clients.specs.Promises.{Begins};
 ghost use Rattle.pq_clients.specs.Runs.{told_by, put_by};
-ghost use Rattle.pq_clients.specs.Running.{views_of, moment, tells_left, puts_left, Turn, Turns, LeavesRun, MakesCalls};
+ghost use Rattle.pq_clients.specs.Running.{HasRoom, moment_of, views_of, moment, Turn, Turns, LeavesRun, MakesCalls};
 ghost use Rattle.pq_clients.specs.Stepping.{view_of, IsClient};
+ghost use Rattle.pq_clients.specs.InFlight.{spot_of};
 
 use crate::client::Client;
 use crate::outcome::{Step, Told, Wrote};
@@ -81,10 +82,7 @@ impl Running {
         ensures clients { IfOk result (λ running. running.clients.items ≡ clients) }
         ensures told { IfOk result (λ running. running.told.items ≡ []) }
         ensures puts { IfOk result (λ running. running.puts.items ≡ []) }
-        ensures told_room { IfOk result (λ running. length running.told.items
-            + sum_by tells_left (views_of running.clients.items) ≤ vec_capacity running.told) }
-        ensures puts_room { IfOk result (λ running. length running.puts.items
-            + sum_by puts_left (views_of running.clients.items) ≤ vec_capacity running.puts) }
+        ensures room { IfOk result HasRoom }
     {
         let writes = count_writes(clients.items());
         let told = Vec::with_capacity(alloc, writes)?;
@@ -120,21 +118,13 @@ impl Running {
     )
         requires clients { All (λ client. IsClient catalog.now.tables (view_of client)) self.old.clients.items }
         requires place { place < length self.old.clients.items }
-        requires told_room { length self.old.told.items + sum_by tells_left (views_of self.old.clients.items)
-            ≤ vec_capacity self.old.told }
-        requires puts_room { length self.old.puts.items + sum_by puts_left (views_of self.old.clients.items)
-            ≤ vec_capacity self.old.puts }
+        requires room { HasRoom self.old }
         ensures turn { Turn catalog.now.tables place
-            (moment (spot (S.content store.old) (S.faults store.old) meter.old) (views_of self.old.clients.items)
-            self.old.told.items self.old.puts.items)
-            (moment (spot (S.content store.new) (S.faults store.new) meter.new) (views_of self.new.clients.items)
-            self.new.told.items self.new.puts.items) }
+            (moment_of (spot_of S.Store store.old meter.old) self.old)
+            (moment_of (spot_of S.Store store.new meter.new) self.new) }
         ensures clients { All (λ client. IsClient catalog.now.tables (view_of client)) self.new.clients.items }
         ensures same { length self.new.clients.items ≡ length self.old.clients.items }
-        ensures told_room { length self.new.told.items + sum_by tells_left (views_of self.new.clients.items)
-            ≤ vec_capacity self.new.told }
-        ensures puts_room { length self.new.puts.items + sum_by puts_left (views_of self.new.clients.items)
-            ≤ vec_capacity self.new.puts }
+        ensures room { HasRoom self.new }
     {
         let said = self.clients[place].step(alloc, catalog, store, meter);
         note(&mut self.told, &mut self.puts, said);
@@ -151,15 +141,10 @@ impl Running {
     )
         requires clients { All (λ client. IsClient catalog.now.tables (view_of client)) self.old.clients.items }
         requires places { All (λ place. place < length self.old.clients.items) order.now }
-        requires told_room { length self.old.told.items + sum_by tells_left (views_of self.old.clients.items)
-            ≤ vec_capacity self.old.told }
-        requires puts_room { length self.old.puts.items + sum_by puts_left (views_of self.old.clients.items)
-            ≤ vec_capacity self.old.puts }
+        requires room { HasRoom self.old }
         ensures { Turns catalog.now.tables order.now
-            (moment (spot (S.content store.old) (S.faults store.old) meter.old) (views_of self.old.clients.items)
-            self.old.told.items self.old.puts.items)
-            (moment (spot (S.content store.new) (S.faults store.new) meter.new) (views_of self.new.clients.items)
-            self.new.told.items self.new.puts.items) }
+            (moment_of (spot_of S.Store store.old meter.old) self.old)
+            (moment_of (spot_of S.Store store.new meter.new) self.new) }
     {
         for place in order {
             self.turn(alloc, catalog, *place as usize, store, meter);

@@ -1,22 +1,16 @@
 //! The steps of a write that holds its key.
-ghost use Rattle.std.specs.Prelude.{Bool, ◌≡◌, IfOk};
-ghost use Rattle.pq_clients.specs.Clients.{Checking, Adding, Testing, Putting, Clearing, Freeing, Undoing, Releasing};
-ghost use Rattle.pq_clients.specs.Fitting.{MayWrite, FitsStage};
-ghost use Rattle.pq_clients.specs.Flights.{IsGranted};
-ghost use Rattle.pq_clients.specs.Goes.{Goes, spot};
-ghost use Rattle.pq_clients.specs.Seen.{flight, seen_stage, seen_course};
-ghost use Rattle.pq_clients.specs.Calling.{way};
-ghost use Rattle.pq_clients.specs.Steps.{flown};
+ghost use Rattle.pq_clients.specs.Fitting.{FitsStage};
+ghost use Rattle.pq_clients.specs.Seen.{seen_stage};
+ghost use Rattle.pq_clients.specs.InFlight.{tables_of, seen_flight, MayFly, spot_of, StepsFrom};
+ghost use Rattle.pq_clients.specs.Clients.{Flying};
 
 use crate::check_steps::check_step;
 use crate::entry_steps::{add_step, clear_step, undo_step};
+use crate::flight::{Holder, InFlight};
 use crate::halt::Halt;
 use crate::limit_steps::test_step;
 use crate::own_steps::{free_step, put_step, release_step};
 use crate::stage::{Course, Stage};
-use pq_base::Bytes;
-use pq_index_keep::Write;
-use pq_schema::Catalog;
 use pq_store::{Meter, Store};
 use std::alloc::Global;
 use std::sync::ledger::Ledger;
@@ -24,51 +18,25 @@ use std::sync::ledger::Ledger;
 /// A step of a write that holds its key.
 pub(crate) fn fly<S: Store<L>, L: Ledger>(
     alloc: Global,
-    catalog: &Catalog,
-    client: u32,
-    number: u32,
-    write: &Write,
-    read: &Option<Bytes>,
+    flight: &InFlight<'_>,
+    holder: Holder,
     stage: &Stage,
     store: &mut S,
     meter: &mut Meter<L>,
 ) -> Result<Course, Halt>
-    requires write { MayWrite catalog.now.tables write.now }
-    requires granted { IsGranted catalog.now.tables (flight write.now read.now) }
-    requires fits { FitsStage catalog.now.tables (flight write.now read.now) (seen_stage stage.now) }
-    ensures goes { Goes (seen_course (flight write.now read.now))
-        (flown catalog.now.tables client number (flight write.now read.now) (seen_stage stage.now))
-        (spot (S.content store.old) (S.faults store.old) meter.old)
-        (spot (S.content store.new) (S.faults store.new) meter.new) result }
-    ensures way { IfOk result (λ course. (b : Bool) × (seen_course (flight write.now read.now) course
-        ≡ way catalog.now.tables (flight write.now read.now) (seen_stage stage.now) b)) }
+    requires write { MayFly flight.now }
+    requires fits { FitsStage (tables_of flight.now) (seen_flight flight.now) (seen_stage stage.now) }
+    ensures { StepsFrom (tables_of flight.now) holder.client holder.number flight.now.write.now
+        (Flying (seen_flight flight.now) (seen_stage stage.now)) (seen_flight flight.now)
+        (spot_of S.Store store.old meter.old) (spot_of S.Store store.new meter.new) result }
 {
     match stage {
         Stage::Checking { check, left } => {
-            check_step(
-                alloc,
-                catalog,
-                write,
-                read,
-                check,
-                left.items(),
-                store,
-                meter,
-            )
+            check_step(alloc, flight, check, left.items(), store, meter)
         }
         Stage::Adding { entry, left, added } => {
             let left = left.items();
-            add_step(
-                alloc,
-                catalog,
-                write,
-                read,
-                entry,
-                left,
-                added.items(),
-                store,
-                meter,
-            )
+            add_step(alloc, flight, entry, left, added.items(), store, meter)
         }
         Stage::Testing {
             place,
@@ -76,28 +44,16 @@ pub(crate) fn fly<S: Store<L>, L: Ledger>(
             passed,
         } => {
             let left = left.items();
-            test_step(
-                alloc,
-                catalog,
-                write,
-                read,
-                *place,
-                left,
-                passed.items(),
-                store,
-                meter,
-            )
+            test_step(alloc, flight, *place, left, passed.items(), store, meter)
         }
-        Stage::Putting => put_step(alloc, catalog, client, number, write, read, store, meter),
+        Stage::Putting => put_step(alloc, flight, holder, store, meter),
         Stage::Clearing { entry, left } => clear_step(alloc, entry, left.items(), store, meter),
-        Stage::Freeing => free_step(alloc, catalog, client, number, write, read, store, meter),
+        Stage::Freeing => free_step(alloc, flight, holder, store, meter),
         Stage::Undoing {
             entry,
             left,
             refusal,
         } => undo_step(alloc, entry, left.items(), refusal, store, meter),
-        Stage::Releasing { refusal } => release_step(
-            alloc, catalog, client, number, write, read, refusal, store, meter,
-        ),
+        Stage::Releasing { refusal } => release_step(alloc, flight, holder, refusal, store, meter),
     }
 }

@@ -2,60 +2,50 @@
 ghost use Rattle.std.specs.Prelude.{Bool, ◌≡◌, IfOk, if◌then◌else◌};
 ghost use Rattle.std.specs.FinMap.{get};
 ghost use Rattle.pq_store.specs.Content.{written_content};
-ghost use Rattle.pq_clients.specs.Clients.{Flying, Looking};
+ghost use Rattle.pq_clients.specs.Clients.{Taking, Flying, Looking};
 ghost use Rattle.pq_clients.specs.Fitting.{MayWrite};
-ghost use Rattle.pq_clients.specs.Flights.{Flight, pair_key, flight_checks, IsGranted};
-ghost use Rattle.pq_clients.specs.Goes.{Goes, spot};
+ghost use Rattle.pq_clients.specs.Flights.{Flight, pair_key, flight_checks};
+ghost use Rattle.pq_clients.specs.Goes.{Goes};
 ghost use Rattle.pq_clients.specs.Held.{held_value};
-ghost use Rattle.pq_clients.specs.Seen.{flight, seen_course};
-ghost use Rattle.pq_clients.specs.Calling.{taken_from, taken_way, way};
+ghost use Rattle.pq_clients.specs.Seen.{seen_course};
+ghost use Rattle.pq_clients.specs.Calling.{way};
 ghost use Rattle.pq_clients.specs.Steps.{On, is_just, checking};
+ghost use Rattle.pq_clients.specs.InFlight.{tables_of, seen_flight, MayFly, spot_of, StepsFrom};
 
 use crate::calls::write_over;
 use crate::course::flying;
+use crate::flight::{Holder, InFlight};
 use crate::halt::Halt;
-use crate::held::held_value;
-use crate::next::{checking, taken};
+use crate::next::taken;
 use crate::own_steps::own_value;
 use crate::rows::pair_key;
 use crate::stage::{Course, Phase};
 use pq_base::{Bytes, NoMem};
-use pq_index_keep::Write;
-use pq_schema::Catalog;
 use pq_store::{Meter, Store};
 use std::alloc::Global;
 use std::sync::ledger::Ledger;
 
-fn take_led(
-    alloc: Global,
-    catalog: &Catalog,
-    write: &Write,
-    read: &Option<Bytes>,
-) -> Result<Course, NoMem>
-    requires write { MayWrite catalog.now.tables write.now }
-    requires granted { IsGranted catalog.now.tables (flight write.now read.now) }
-    ensures { IfOk result (λ course. seen_course (flight write.now read.now) course
-        ≡ On (Flying (flight write.now read.now) (checking catalog.now.tables (flight write.now read.now)
-        (flight_checks catalog.now.tables (flight write.now read.now))))) }
+fn take_led(alloc: Global, flight: &InFlight<'_>) -> Result<Course, NoMem>
+    requires { MayFly flight.now }
+    ensures { IfOk result (λ course. seen_course (seen_flight flight.now) course
+        ≡ On (Flying (seen_flight flight.now) (checking (tables_of flight.now) (seen_flight flight.now)
+        (flight_checks (tables_of flight.now) (seen_flight flight.now))))) }
 {
-    let stage = taken(alloc, catalog, write, read)?;
+    let stage = taken(alloc, flight)?;
     Ok(flying(stage))
 }
 
 fn take_parts(
     alloc: Global,
-    catalog: &Catalog,
-    client: u32,
-    number: u32,
-    write: &Write,
-    read: &Option<Bytes>,
+    flight: &InFlight<'_>,
+    holder: Holder,
 ) -> Result<(Bytes, Option<Bytes>), NoMem>
-    requires { MayWrite catalog.now.tables write.now }
-    ensures { IfOk result (λ parts. (parts.0 ≡ pair_key catalog.now.tables write.now)
-        × (parts.1 ≡ Some (held_value client number read.now))) }
+    requires { MayWrite (tables_of flight.now) flight.now.write.now }
+    ensures { IfOk result (λ parts. (parts.0 ≡ pair_key (tables_of flight.now) flight.now.write.now)
+        × (parts.1 ≡ Some (held_value holder.client holder.number flight.now.read.now))) }
 {
-    let new = own_value(alloc, client, number, read)?;
-    let key = pair_key(alloc, catalog, write)?;
+    let new = own_value(alloc, holder, flight.read)?;
+    let key = pair_key(alloc, flight.catalog, flight.write)?;
     Ok((key, new))
 }
 
@@ -83,8 +73,7 @@ fn take_at<S: Store<L>, L: Ledger>(
 ) -> Result<Course, Halt>
     ensures goes { (f : Flight) → Goes (seen_course f) (λ c. if is_just read.now (get c key.now)
         then (written_content key.now new.now c, seen_course f pass) else (c, On (Looking f)))
-        (spot (S.content store.old) (S.faults store.old) meter.old)
-        (spot (S.content store.new) (S.faults store.new) meter.new) result }
+        (spot_of S.Store store.old meter.old) (spot_of S.Store store.new meter.new) result }
     ensures way { (f : Flight) → IfOk result (λ course. (b : Bool) × (seen_course f course
         ≡ (if b then seen_course f pass else On (Looking f)))) }
 {
@@ -100,59 +89,44 @@ fn take_at<S: Store<L>, L: Ledger>(
 /// The take, behind which the write goes on so where it is made.
 fn take_with<S: Store<L>, L: Ledger>(
     alloc: Global,
-    catalog: &Catalog,
-    client: u32,
-    number: u32,
-    write: &Write,
-    read: &Option<Bytes>,
+    flight: &InFlight<'_>,
+    holder: Holder,
     pass: Course,
     store: &mut S,
     meter: &mut Meter<L>,
 ) -> Result<Course, Halt>
-    requires write { MayWrite catalog.now.tables write.now }
-    requires pass { seen_course (flight write.now read.now) pass
-        ≡ On (Flying (flight write.now read.now) (checking catalog.now.tables (flight write.now read.now)
-        (flight_checks catalog.now.tables (flight write.now read.now)))) }
-    ensures goes { Goes (seen_course (flight write.now read.now))
-        (taken_from catalog.now.tables client number (flight write.now read.now))
-        (spot (S.content store.old) (S.faults store.old) meter.old)
-        (spot (S.content store.new) (S.faults store.new) meter.new) result }
-    ensures way { IfOk result (λ course. (b : Bool) × (seen_course (flight write.now read.now) course
-        ≡ taken_way catalog.now.tables (flight write.now read.now) b)) }
+    requires write { MayWrite (tables_of flight.now) flight.now.write.now }
+    requires pass { seen_course (seen_flight flight.now) pass
+        ≡ On (Flying (seen_flight flight.now) (checking (tables_of flight.now) (seen_flight flight.now)
+        (flight_checks (tables_of flight.now) (seen_flight flight.now)))) }
+    ensures { StepsFrom (tables_of flight.now) holder.client holder.number flight.now.write.now
+        (Taking (seen_flight flight.now)) (seen_flight flight.now)
+        (spot_of S.Store store.old meter.old) (spot_of S.Store store.new meter.new) result }
 {
-    match take_parts(alloc, catalog, client, number, write, read) {
+    match take_parts(alloc, flight, holder) {
         Err(_) => {
             drop(pass);
             Err(Halt::NoMem)
         }
-        Ok((key, new)) => take_at(alloc, &key, read, &new, pass, store, meter),
+        Ok((key, new)) => take_at(alloc, &key, flight.read, &new, pass, store, meter),
     }
 }
 
 /// The take.
 pub(crate) fn take<S: Store<L>, L: Ledger>(
     alloc: Global,
-    catalog: &Catalog,
-    client: u32,
-    number: u32,
-    write: &Write,
-    read: &Option<Bytes>,
+    flight: &InFlight<'_>,
+    holder: Holder,
     store: &mut S,
     meter: &mut Meter<L>,
 ) -> Result<Course, Halt>
-    requires write { MayWrite catalog.now.tables write.now }
-    requires granted { IsGranted catalog.now.tables (flight write.now read.now) }
-    ensures goes { Goes (seen_course (flight write.now read.now))
-        (taken_from catalog.now.tables client number (flight write.now read.now))
-        (spot (S.content store.old) (S.faults store.old) meter.old)
-        (spot (S.content store.new) (S.faults store.new) meter.new) result }
-    ensures way { IfOk result (λ course. (b : Bool) × (seen_course (flight write.now read.now) course
-        ≡ taken_way catalog.now.tables (flight write.now read.now) b)) }
+    requires { MayFly flight.now }
+    ensures { StepsFrom (tables_of flight.now) holder.client holder.number flight.now.write.now
+        (Taking (seen_flight flight.now)) (seen_flight flight.now)
+        (spot_of S.Store store.old meter.old) (spot_of S.Store store.new meter.new) result }
 {
-    match take_led(alloc, catalog, write, read) {
+    match take_led(alloc, flight) {
         Err(_) => Err(Halt::NoMem),
-        Ok(pass) => take_with(
-            alloc, catalog, client, number, write, read, pass, store, meter,
-        ),
+        Ok(pass) => take_with(alloc, flight, holder, pass, store, meter),
     }
 }

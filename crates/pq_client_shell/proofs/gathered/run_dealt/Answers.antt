@@ -16,13 +16,13 @@ pub seat-requires-clause-few : goal.seat-requires-clause-few
 seat-requires-clause-few g c = hands_tiny c.args.k c.args.writes _ c.in_ok-hands.ensures c.requires.few
 
 pub seat-requires-clause-seats : goal.seat-requires-clause-seats
-seat-requires-clause-seats g c = hands_seats c.args.k c.args.writes _ c.in_ok-hands.ensures c.requires.seats
+seat-requires-clause-seats g c = hands_seats c.args.k c.args.writes _ c.in_ok-hands.ensures c.requires.seats.most
 
 pub run_clients-requires-clause-clients : goal.run_clients-requires-clause-clients
 run_clients-requires-clause-clients g c = clients_fit c.args.k c.args.writes _ c.in_ok-hands.ensures c.in_ok-clients.clients c.in_ok-clients.ensures c.args.catalog.now.tables c.requires.few c.requires.made
 
 pub run_clients-requires-clause-few : goal.run_clients-requires-clause-few
-run_clients-requires-clause-few g c = clients_few c.args.k c.args.writes _ c.in_ok-hands.ensures c.in_ok-clients.clients c.in_ok-clients.ensures c.requires.seats c.requires.few
+run_clients-requires-clause-few g c = clients_few c.args.k c.args.writes _ c.in_ok-hands.ensures c.in_ok-clients.clients c.in_ok-clients.ensures c.requires.seats.most c.requires.few
 
 pub run_clients-requires-clause-places : goal.run_clients-requires-clause-places
 run_clients-requires-clause-places g c =
@@ -31,7 +31,7 @@ run_clients-requires-clause-places g c =
 pub returns-clause-ran : goal.returns-clause-ran
 returns-clause-ran g c =
     ran_clients c.args.k c.args.writes _ c.in_ok-hands.ensures c.in_ok-clients.clients c.in_ok-clients.ensures c.args.catalog.now c.items.result.now c.rounds_of-rounds.result _ _ _ _ _
-    c.known.ensures c.requires.seats c.requires.few c.requires.made (c.items.ensures ∙ c.in_ok-order.ensures) c.in_ok-ran.ensures.promises
+    c.known.ensures c.requires.seats.most c.requires.few c.requires.made (c.items.ensures ∙ c.in_ok-order.ensures) c.in_ok-ran.ensures.promises
     _ _ _ _ c.requires.uncounted (subst (AllByRecursion (HasCalls c.args.catalog.now.tables c.rounds_of-rounds.result)) c.as_slice.ensures.value c.rounds_of-rounds.ensures) c.in_ok-ran.ensures.turns
 
 pub returns-clause-causes : goal.returns-clause-causes

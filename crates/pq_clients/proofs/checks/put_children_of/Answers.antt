@@ -6,11 +6,11 @@ use Rattle.pq_clients.proofs.checks.put_children_of.Goals as goal
 
 pub loop-place-preserved : goal.loop-place-preserved
 loop-place-preserved c =
-    loop_more (λ (j : ℕ) (xs : List Foreign). child_checks_of c.args.named c.args.key.now c.args.number c.args.table.now j xs)
+    loop_more (λ (j : ℕ) (xs : List Foreign). child_checks_of c.args.named.now.table c.args.named.now.key.now c.args.number c.args.table.now j xs)
     c.args.foreign.now c.loop-place.place c.index-foreign-place.result _ _ _ c.loop-place-test.true c.index-foreign-place.is
     c.in_ok-put_child.ensures c.loop-place.invariant
 
 pub returns : goal.returns
 returns c =
-    loop_done (λ (j : ℕ) (xs : List Foreign). child_checks_of c.args.named c.args.key.now c.args.number c.args.table.now j xs)
+    loop_done (λ (j : ℕ) (xs : List Foreign). child_checks_of c.args.named.now.table c.args.named.now.key.now c.args.number c.args.table.now j xs)
     c.args.foreign.now c.loop-place.place _ _ c.loop-place-test.false refl c.loop-place.invariant

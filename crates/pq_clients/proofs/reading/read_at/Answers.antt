@@ -8,19 +8,16 @@ use Rattle.pq_clients.specs.Steps.{after_read}
 use Rattle.pq_clients.proofs.Ways.{led_by, found_way, ok_at}
 use Rattle.pq_clients.proofs.reading.read_at.Goals as goal
 
-pub returns-in-Ok-clause-goes : goal.returns-in-Ok-clause-goes
-returns-in-Ok-clause-goes g c = λ before.
+pub returns-in-Ok : goal.returns-in-Ok
+returns-in-Ok g c = λ number before.
     let tables = c.args.catalog.now.tables in
     let w = c.args.write.now in
     let to = after_read tables c.args.client w in
-    led_by (seen_course (flight w before)) (λ (k : Content). get k c.items.result.now) (λ (k : Content). get k (pair_key tables w))
-    to _ _ c.in-Ok.found c.after_read.result c.in_memory.result c.in-Ok.ensures
-    (λ (k : Content). ap (λ (q : List ℕ). get k q) c.items.ensures ∙ ap (λ (q : List ℕ). get k q) c.requires.key)
-    (ok_at (λ (course : Course) (b : Option (List ℕ)). seen_course (flight w b) course ≡ to c.in-Ok.found) c.after_read.result c.after_read.ensures before) c.in_memory.ensures
-
-pub returns-in-Ok-clause-way : goal.returns-in-Ok-clause-way
-returns-in-Ok-clause-way g c = λ before.
-    let w = c.args.write.now in
-    let to = after_read c.args.catalog.now.tables c.args.client w in
-    found_way (flight w before) to c.in-Ok.found c.after_read.result c.in_memory.result
-    (ok_at (λ (course : Course) (b : Option (List ℕ)). seen_course (flight w b) course ≡ to c.in-Ok.found) c.after_read.result c.after_read.ensures before) c.in_memory.ensures
+    record {
+      goes = led_by (seen_course (flight w before)) (λ (k : Content). get k c.items.result.now) (λ (k : Content). get k (pair_key tables w))
+          to _ _ c.in-Ok.found c.after_read.result c.in_memory.result c.in-Ok.ensures
+          (λ (k : Content). ap (λ (q : List ℕ). get k q) c.items.ensures ∙ ap (λ (q : List ℕ). get k q) c.requires.key)
+          (ok_at (λ (course : Course) (b : Option (List ℕ)). seen_course (flight w b) course ≡ to c.in-Ok.found) c.after_read.result c.after_read.ensures before) c.in_memory.ensures;
+      way = found_way (flight w before) to c.in-Ok.found c.after_read.result c.in_memory.result
+          (ok_at (λ (course : Course) (b : Option (List ℕ)). seen_course (flight w b) course ≡ to c.in-Ok.found) c.after_read.result c.after_read.ensures before) c.in_memory.ensures;
+    }

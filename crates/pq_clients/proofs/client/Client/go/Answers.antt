@@ -7,7 +7,8 @@ use Rattle.pq_clients.specs.Fitting.{MayWrite, FitsNext}
 use Rattle.pq_clients.specs.Seen.{flight, seen_next, seen_course}
 use Rattle.pq_clients.specs.Steps.{gone_on}
 use Rattle.pq_clients.specs.Stepping.{gone_from, IsWay, view_of, hand_of, at_hand}
-use Rattle.pq_clients.specs.Goes.{Goes, spot}
+use Rattle.pq_clients.specs.Goes.{Goes}
+use Rattle.pq_clients.specs.InFlight.{spot_of}
 use Rattle.pq_clients.proofs.Going.{regone}
 use Rattle.pq_clients.proofs.Hands.{going_at, hand_writes, hand_is, small_at, gone_same}
 use Rattle.pq_clients.proofs.client.Client.go.Goals as goal
@@ -33,8 +34,8 @@ returns-clause-goes g c =
     let tables = c.args.catalog.now.tables in
     let v = view_of c.args.self.now in
     let w = at_hand c.args.self.now.writes c.args.self.now.at in
-    let before = spot (g.S.Store.content c.args.store.now) (g.S.Store.faults c.args.store.now) c.args.meter.now in
-    let after = spot (g.S.Store.content c.go.new.store) (g.S.Store.faults c.go.new.store) c.go.new.meter in
+    let before = spot_of g.S.Store c.args.store.now c.args.meter.now in
+    let after = spot_of g.S.Store c.go.new.store c.go.new.meter in
     regone (seen_course (hand_of c.args.self.now)) (gone_from tables v.number v.at w v.next) (gone_on tables v v.next) before after c.go.result
     (subst (λ (x : Write). Goes (seen_course (flight x c.args.self.now.read))
     (gone_from tables c.args.self.now.number c.args.self.now.at x (seen_next (flight x c.args.self.now.read) c.args.self.now.next)) before after c.go.result)

@@ -7,12 +7,10 @@ use Rattle.pq_clients.proofs.run.Running.begin.Goals as goal
 pub count_writes-writes-requires : goal.count_writes-writes-requires
 count_writes-writes-requires c = few_begin c.args.clients c.items.result.now c.items.ensures c.requires
 
-pub returns-clause-told_room : goal.returns-clause-told_room
-returns-clause-told_room c =
-    told_begin c.args.clients c.into_vec.result.items c.in_ok-told.told.items c.count_writes-writes.result (vec_capacity c.in_ok-told.told) c.into_vec.ensures c.in_ok-told.ensures.items
-    (c.count_writes-writes.ensures ∙ ap (λ (l : List Client). sum_by (λ (client : Client). length client.writes) l) c.items.ensures) c.in_ok-told.ensures.exact
-
-pub returns-clause-puts_room : goal.returns-clause-puts_room
-returns-clause-puts_room c =
-    puts_begin c.args.clients c.into_vec.result.items c.in_ok-puts.puts.items c.count_writes-writes.result (vec_capacity c.in_ok-puts.puts) c.into_vec.ensures c.in_ok-puts.ensures.items
-    (c.count_writes-writes.ensures ∙ ap (λ (l : List Client). sum_by (λ (client : Client). length client.writes) l) c.items.ensures) c.in_ok-puts.ensures.exact
+pub returns-clause-room : goal.returns-clause-room
+returns-clause-room c = record {
+  told = told_begin c.args.clients c.into_vec.result.items c.in_ok-told.told.items c.count_writes-writes.result (vec_capacity c.in_ok-told.told) c.into_vec.ensures c.in_ok-told.ensures.items
+      (c.count_writes-writes.ensures ∙ ap (λ (l : List Client). sum_by (λ (client : Client). length client.writes) l) c.items.ensures) c.in_ok-told.ensures.exact;
+  puts = puts_begin c.args.clients c.into_vec.result.items c.in_ok-puts.puts.items c.count_writes-writes.result (vec_capacity c.in_ok-puts.puts) c.into_vec.ensures c.in_ok-puts.ensures.items
+      (c.count_writes-writes.ensures ∙ ap (λ (l : List Client). sum_by (λ (client : Client). length client.writes) l) c.items.ensures) c.in_ok-puts.ensures.exact;
+}

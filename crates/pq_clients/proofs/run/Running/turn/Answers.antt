@@ -16,7 +16,7 @@ note-requires-clause-told_room g c =
     let is = client_at tables all c.args.place x c.requires.clients c.requires.place c.index_mut.ensures.value in
     told_fit all c.args.place x c.step-said.new.self c.step-said.result c.args.self.now.told.items (vec_capacity c.args.self.now.told) c.requires.place c.index_mut.ensures.value
     (leaves_less tables (view_of x) (view_of c.step-said.new.self) _ _ c.step-said.result is.from_one c.step-said.ensures.way c.step-said.ensures.calls)
-    c.requires.told_room
+    c.requires.room.told
 
 pub note-requires-clause-puts_room : goal.note-requires-clause-puts_room
 note-requires-clause-puts_room g c =
@@ -26,7 +26,7 @@ note-requires-clause-puts_room g c =
     let is = client_at tables all c.args.place x c.requires.clients c.requires.place c.index_mut.ensures.value in
     puts_fit all c.args.place x c.step-said.new.self c.step-said.result c.args.self.now.puts.items (vec_capacity c.args.self.now.puts) c.requires.place c.index_mut.ensures.value
     (leaves_less tables (view_of x) (view_of c.step-said.new.self) _ _ c.step-said.result is.from_one c.step-said.ensures.way c.step-said.ensures.calls)
-    c.requires.puts_room
+    c.requires.room.puts
 
 pub returns-clause-turn : goal.returns-clause-turn
 returns-clause-turn g c = record {
@@ -46,24 +46,18 @@ pub returns-clause-clients : goal.returns-clause-clients
 returns-clause-clients g c =
     clients_set c.args.catalog.now.tables c.args.self.now.clients.items c.args.place c.step-said.new.self c.requires.clients c.step-said.ensures.kept
 
-pub returns-clause-told_room : goal.returns-clause-told_room
-returns-clause-told_room g c =
+pub returns-clause-room : goal.returns-clause-room
+returns-clause-room g c =
     let x = c.index_mut.result.now in
     let tables = c.args.catalog.now.tables in
     let all = c.args.self.now.clients.items in
     let is = client_at tables all c.args.place x c.requires.clients c.requires.place c.index_mut.ensures.value in
-    told_room all c.args.place x c.step-said.new.self c.step-said.result c.args.self.now.told.items c.note.new.told.items
-    (vec_capacity c.args.self.now.told) (vec_capacity c.note.new.told) c.requires.place c.index_mut.ensures.value
-    (leaves_less tables (view_of x) (view_of c.step-said.new.self) _ _ c.step-said.result is.from_one c.step-said.ensures.way c.step-said.ensures.calls)
-    c.requires.told_room c.note.ensures.told c.note.ensures.told_room
-
-pub returns-clause-puts_room : goal.returns-clause-puts_room
-returns-clause-puts_room g c =
-    let x = c.index_mut.result.now in
-    let tables = c.args.catalog.now.tables in
-    let all = c.args.self.now.clients.items in
-    let is = client_at tables all c.args.place x c.requires.clients c.requires.place c.index_mut.ensures.value in
-    puts_room all c.args.place x c.step-said.new.self c.step-said.result c.args.self.now.puts.items c.note.new.puts.items
-    (vec_capacity c.args.self.now.puts) (vec_capacity c.note.new.puts) c.requires.place c.index_mut.ensures.value
-    (leaves_less tables (view_of x) (view_of c.step-said.new.self) _ _ c.step-said.result is.from_one c.step-said.ensures.way c.step-said.ensures.calls)
-    c.requires.puts_room c.note.ensures.puts c.note.ensures.puts_room
+    let less = leaves_less tables (view_of x) (view_of c.step-said.new.self) _ _ c.step-said.result is.from_one c.step-said.ensures.way c.step-said.ensures.calls in
+    record {
+      told = told_room all c.args.place x c.step-said.new.self c.step-said.result c.args.self.now.told.items c.note.new.told.items
+          (vec_capacity c.args.self.now.told) (vec_capacity c.note.new.told) c.requires.place c.index_mut.ensures.value less
+          c.requires.room.told c.note.ensures.told c.note.ensures.told_room;
+      puts = puts_room all c.args.place x c.step-said.new.self c.step-said.result c.args.self.now.puts.items c.note.new.puts.items
+          (vec_capacity c.args.self.now.puts) (vec_capacity c.note.new.puts) c.requires.place c.index_mut.ensures.value less
+          c.requires.room.puts c.note.ensures.puts c.note.ensures.puts_room;
+    }

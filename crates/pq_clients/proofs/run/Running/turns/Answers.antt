@@ -11,8 +11,7 @@ loop-place-preserved g c = record {
   turns = turns_next c.args.catalog.now.tables c.args.order.now c.loop-place.place-index _ _ _ c.loop-place-test.true c.loop-place.invariant.turns c.turn.ensures.turn;
   clients = c.turn.ensures.clients;
   same = c.turn.ensures.same ∙ c.loop-place.invariant.same;
-  told_room = c.turn.ensures.told_room;
-  puts_room = c.turn.ensures.puts_room;
+  room = c.turn.ensures.room;
 }
 
 pub returns : goal.returns
