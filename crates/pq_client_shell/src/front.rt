@@ -43,20 +43,12 @@ pub fn run_front<S: Store<L>, O: Sink, L: Ledger>(
 {
     let mut session = session;
     let mut tally = Tally {
+        form: Form::Run,
         count: 0,
         refused: false,
     };
     for piece in pieces {
-        session = serve(
-            alloc,
-            Form::Run,
-            session,
-            piece,
-            &mut tally,
-            store,
-            meter,
-            sink,
-        )?;
+        session = serve(alloc, session, piece, &mut tally, store, meter, sink)?;
     }
     Ok(Front {
         session,

@@ -107,7 +107,6 @@ fn begin<S: Store<L>, O: Sink, L: Ledger>(
 /// Reads the source to its end, a fault or the limit, and makes and reports each piece as it is cut.
 fn run_source<S: Store<L>, I: Source, O: Sink, L: Ledger>(
     alloc: Global,
-    form: Form,
     session: PlannedCatalog,
     progress: &mut Progress,
     source: &mut I,
@@ -116,15 +115,15 @@ fn run_source<S: Store<L>, I: Source, O: Sink, L: Ledger>(
     sink: &mut O,
 ) -> Result<Ending, Stop>
     requires few { progress.old.tally.count + script_limit < 2 ^ 32 }
-    requires read { ReadsSource form }
+    requires read { ReadsSource progress.old.tally.form }
     ensures ok { IfOk result (λ ending. (last : Schema)
-        × ConsumedSource form ending (I.left source.old) (I.left source.new) session last
+        × ConsumedSource progress.old.tally.form ending (I.left source.old) (I.left source.new) session last
         (moment (S.content store.old) (O.held sink.old) meter.old)
         (moment (S.content store.new) (O.held sink.new) meter.new) progress.old progress.new) }
-    ensures err { IfErr result (λ stop. StoppedAmong S.answers form stop (I.left source.old) (I.left source.new) session
+    ensures err { IfErr result (λ stop. StoppedAmong S.answers progress.old.tally.form stop (I.left source.old) (I.left source.new) session
         (moment (S.content store.old) (O.held sink.old) meter.old)
         (moment (S.content store.new) (O.held sink.new) meter.new) progress.old) }
-    ensures unmoved { form ≡ Form.Check → (store.new ≡ store.old) × (meter.new ≡ meter.old) }
+    ensures unmoved { progress.old.tally.form ≡ Form.Check → (store.new ≡ store.old) × (meter.new ≡ meter.old) }
     ensures causes { Causes (S.faults store.old) (S.faults store.new) (O.faults sink.old) (O.faults sink.new) result }
     ensures takes { TakesScript I.Source source.old source.new (λ ending. ending) result }
 {
@@ -140,16 +139,7 @@ fn run_source<S: Store<L>, I: Source, O: Sink, L: Ledger>(
         if n == 0 {
             return Ok(Ending::Whole);
         }
-        session = run_part(
-            alloc,
-            form,
-            session,
-            &room[..n],
-            progress,
-            store,
-            meter,
-            sink,
-        )?;
+        session = run_part(alloc, session, &room[..n], progress, store, meter, sink)?;
         taken += n;
     }
     Ok(read_past_limit(source))
@@ -178,10 +168,9 @@ fn run_script<S: Store<L>, I: Source, O: Sink, L: Ledger>(
     ensures takes { TakesScript I.Source source.old source.new (λ ended. ended.ending) result }
 {
     let begun = begin(alloc, form, store, meter, sink)?;
-    let mut progress = Progress::new(alloc);
+    let mut progress = Progress::new(alloc, form);
     let ending = run_source(
         alloc,
-        form,
         begun.session,
         &mut progress,
         source,

@@ -21,9 +21,10 @@ use pq_text::{Piece, Splitter};
 use std::alloc::Global;
 use std::sync::ledger::Ledger;
 
-/// How many statements were made, and whether one of them was refused.
+/// In which form statements are made, how many were, and whether one of them was refused.
 #[derive(Clone, Copy)]
 pub struct Tally {
+    pub form: Form,
     pub count: u32,
     pub refused: bool,
 }
@@ -32,10 +33,12 @@ impl Tally {
     // The tally of one statement more.
     fn with(self, refused: bool) -> Tally
         requires { self.count + 1 < 2 ^ 32 }
+        ensures form { result.form ≡ self.form }
         ensures count { result.count ≡ self.count + 1 }
         ensures refused { result.refused ≡ (self.refused || refused) }
     {
         Tally {
+            form: self.form,
             count: self.count + 1,
             refused: self.refused || refused,
         }
@@ -57,15 +60,17 @@ pub struct Ended {
 }
 
 impl Progress {
-    /// The start of a script. It takes no memory.
-    pub fn new(alloc: Global) -> Progress
+    /// The start of a script in a form. It takes no memory.
+    pub fn new(alloc: Global, form: Form) -> Progress
         ensures splitter { result.splitter ≡ start_summary }
+        ensures form { result.tally.form ≡ form }
         ensures count { result.tally.count ≡ 0 }
         ensures refused { result.tally.refused ≡ false }
     {
         Progress {
             splitter: Splitter::new(alloc),
             tally: Tally {
+                form,
                 count: 0,
                 refused: false,
             },
@@ -102,7 +107,6 @@ pub fn make<S: Store<L>, L: Ledger>(
 /// Makes the next piece and writes its report.
 pub fn serve<S: Store<L>, O: Sink, L: Ledger>(
     alloc: Global,
-    form: Form,
     session: PlannedCatalog,
     piece: &Piece,
     tally: &mut Tally,
@@ -111,21 +115,22 @@ pub fn serve<S: Store<L>, O: Sink, L: Ledger>(
     sink: &mut O,
 ) -> Result<PlannedCatalog, Stop>
     requires few { tally.old.count + 1 < 2 ^ 32 }
-    requires read { ReadsSource form }
-    ensures ok { IfOk result (λ next. ServedItems form session next
+    requires read { ReadsSource tally.old.form }
+    ensures ok { IfOk result (λ next. ServedItems tally.old.form session next
         (moment (S.content store.old) (O.held sink.old) meter.old)
         (moment (S.content store.new) (O.held sink.new) meter.new)
         (tally.old.count + 1) (Cut piece.now ∷ []) tally.old.refused tally.new.refused) }
+    ensures form { tally.new.form ≡ tally.old.form }
     ensures count { OnOk result (tally.new.count ≡ tally.old.count + 1) }
-    ensures err { IfErr result (λ stop. StoppedItem S.answers form stop session
+    ensures err { IfErr result (λ stop. StoppedItem S.answers tally.old.form stop session
         (moment (S.content store.old) (O.held sink.old) meter.old)
         (moment (S.content store.new) (O.held sink.new) meter.new)
         (tally.old.count + 1) (Cut piece.now ∷ [])) }
-    ensures unmoved { form ≡ Form.Check → (store.new ≡ store.old) × (meter.new ≡ meter.old) }
+    ensures unmoved { tally.old.form ≡ Form.Check → (store.new ≡ store.old) × (meter.new ≡ meter.old) }
     ensures causes { Causes (S.faults store.old) (S.faults store.new) (O.faults sink.old) (O.faults sink.new) result }
 {
     let number = tally.count + 1;
-    match make(alloc, form, session, number, piece, store, meter) {
+    match make(alloc, tally.form, session, number, piece, store, meter) {
         Ok(made) => {
             write_report(alloc, &made.1, sink)?;
             *tally = tally.with(made.1.is_refusal());
@@ -138,7 +143,6 @@ pub fn serve<S: Store<L>, O: Sink, L: Ledger>(
 /// Cuts a part of a script, and makes and reports the pieces that end in it.
 pub fn run_part<S: Store<L>, O: Sink, L: Ledger>(
     alloc: Global,
-    form: Form,
     session: PlannedCatalog,
     bytes: &[u8],
     progress: &mut Progress,
@@ -147,16 +151,17 @@ pub fn run_part<S: Store<L>, O: Sink, L: Ledger>(
     sink: &mut O,
 ) -> Result<PlannedCatalog, Stop>
     requires few { progress.old.tally.count + length bytes.now < 2 ^ 32 }
-    requires read { ReadsSource form }
-    ensures ok { IfOk result (λ next. ProgressedRun form session next
+    requires read { ReadsSource progress.old.tally.form }
+    ensures ok { IfOk result (λ next. ProgressedRun progress.old.tally.form session next
         (moment (S.content store.old) (O.held sink.old) meter.old)
         (moment (S.content store.new) (O.held sink.new) meter.new)
         bytes.now progress.old progress.new) }
-    ensures err { IfErr result (λ stop. StoppedItem S.answers form stop session
+    ensures err { IfErr result (λ stop. StoppedItem S.answers progress.old.tally.form stop session
         (moment (S.content store.old) (O.held sink.old) meter.old)
         (moment (S.content store.new) (O.held sink.new) meter.new)
         (progress.old.tally.count + 1) (cut_items (pieces_from progress.old.splitter bytes.now))) }
-    ensures unmoved { form ≡ Form.Check → (store.new ≡ store.old) × (meter.new ≡ meter.old) }
+    ensures form { progress.new.tally.form ≡ progress.old.tally.form }
+    ensures unmoved { progress.old.tally.form ≡ Form.Check → (store.new ≡ store.old) × (meter.new ≡ meter.old) }
     ensures causes { Causes (S.faults store.old) (S.faults store.new) (O.faults sink.old) (O.faults sink.new) result }
 {
     let mut session = session;
@@ -170,7 +175,6 @@ pub fn run_part<S: Store<L>, O: Sink, L: Ledger>(
         if let Some(piece) = piece {
             session = serve(
                 alloc,
-                form,
                 session,
                 &piece,
                 &mut progress.tally,

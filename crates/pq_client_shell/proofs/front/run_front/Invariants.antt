@@ -7,6 +7,7 @@ use Rattle.pq_client_shell.proofs.front.run_front.Given as goal
 
 abbrev pub invariant-loop-piece : goal.invariant-loop-piece
 invariant-loop-piece g l = record {
+  form : l.tally.form ≡ Run;
   count : l.tally.count ≡ l.piece-index;
   store_later : g.S.Store.faults l.initial.store ≤ g.S.Store.faults l.store;
   sink_later : g.O.Sink.faults l.initial.sink ≤ g.O.Sink.faults l.sink;

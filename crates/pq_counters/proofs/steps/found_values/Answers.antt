@@ -7,9 +7,9 @@ gets-requires g c = rw (c.items.ensures, c.in_ok-keys.ensures, length-map c.args
 
 pub returns-clause-asks : goal.returns-clause-asks
 returns-clause-asks g c = record {
-  uses = rw (c.items.ensures, c.in_ok-keys.ensures, length-map c.args.groups.now asked_key) at c.gets.ensures.uses;
-  cause = c.gets.ensures.cause;
-  answered = c.gets.ensures.answered;
+  uses = rw (c.items.ensures, c.in_ok-keys.ensures, length-map c.args.groups.now asked_key) at c.gets.ensures.asks.uses;
+  cause = c.gets.ensures.asks.cause;
+  answered = c.gets.ensures.asks.answered;
 }
 
 pub returns-clause-long : goal.returns-clause-long

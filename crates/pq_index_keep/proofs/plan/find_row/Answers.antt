@@ -10,8 +10,8 @@ returns-in-Err-clause-stops g c = record {
   cause =
       no_row_explains c.args.keyed.now.catalog.now.tables c.args.keyed.now.number c.args.keyed.now.key.now c.requires.number c.requires.kinds
       (seen_world g.S.Store.content g.S.Store.faults c.args.calls.now) (seen_world g.S.Store.content g.S.Store.faults c.row.new.self) c.in-Err.error
-      (rw c.table_of.ensures.table at c.in-Err.ensures.cause);
-  answered = c.in-Err.ensures.answered;
+      (rw c.table_of.ensures.table at c.in-Err.ensures.asks.cause);
+  answered = c.in-Err.ensures.asks.answered;
 }
 
 pub returns-in-Ok-clause-answer : goal.returns-in-Ok-clause-answer

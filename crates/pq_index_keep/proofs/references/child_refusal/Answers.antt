@@ -26,25 +26,25 @@ pub returns-in_err-first_held-clause-spends : goal.returns-in_err-first_held-cla
 returns-in_err-first_held-clause-spends g c =
     let are : c.items.result.now ≡ child_tests c.args.number c.args.key.now 1 c.args.tables.now =
     c.items.ensures ∙ c.in_ok-ask_children.ensures ∙ ap (λ (ts : List Test). ts ++ child_tests c.args.number c.args.key.now 1 c.args.tables.now) c.new-tests.ensures in
-    children_spend g.S.Store c.args.calls.now c.first_held.new.self c.args.number c.args.key.now c.args.tables.now c.items.result.now are c.known.ensures.thin c.first_held.ensures.uses c.first_held.ensures.rounds
+    children_spend g.S.Store c.args.calls.now c.first_held.new.self c.args.number c.args.key.now c.args.tables.now c.items.result.now are c.known.ensures.thin c.first_held.ensures.asks.uses c.first_held.ensures.asks.rounds
 
 pub returns-in-None-clause-spends : goal.returns-in-None-clause-spends
 returns-in-None-clause-spends g c =
     let are : c.items.result.now ≡ child_tests c.args.number c.args.key.now 1 c.args.tables.now =
     c.items.ensures ∙ c.in_ok-ask_children.ensures ∙ ap (λ (ts : List Test). ts ++ child_tests c.args.number c.args.key.now 1 c.args.tables.now) c.new-tests.ensures in
-    children_spend g.S.Store c.args.calls.now c.first_held.new.self c.args.number c.args.key.now c.args.tables.now c.items.result.now are c.known.ensures.thin c.first_held.ensures.uses c.first_held.ensures.rounds
+    children_spend g.S.Store c.args.calls.now c.first_held.new.self c.args.number c.args.key.now c.args.tables.now c.items.result.now are c.known.ensures.thin c.first_held.ensures.asks.uses c.first_held.ensures.asks.rounds
 
 pub returns-in_err-child_refusal_at-in-Some-clause-spends : goal.returns-in_err-child_refusal_at-in-Some-clause-spends
 returns-in_err-child_refusal_at-in-Some-clause-spends g c =
     let are : c.items.result.now ≡ child_tests c.args.number c.args.key.now 1 c.args.tables.now =
     c.items.ensures ∙ c.in_ok-ask_children.ensures ∙ ap (λ (ts : List Test). ts ++ child_tests c.args.number c.args.key.now 1 c.args.tables.now) c.new-tests.ensures in
-    children_spend g.S.Store c.args.calls.now c.first_held.new.self c.args.number c.args.key.now c.args.tables.now c.items.result.now are c.known.ensures.thin c.first_held.ensures.uses c.first_held.ensures.rounds
+    children_spend g.S.Store c.args.calls.now c.first_held.new.self c.args.number c.args.key.now c.args.tables.now c.items.result.now are c.known.ensures.thin c.first_held.ensures.asks.uses c.first_held.ensures.asks.rounds
 
 pub returns-clause-spends : goal.returns-clause-spends
 returns-clause-spends g c =
     let are : c.items.result.now ≡ child_tests c.args.number c.args.key.now 1 c.args.tables.now =
     c.items.ensures ∙ c.in_ok-ask_children.ensures ∙ ap (λ (ts : List Test). ts ++ child_tests c.args.number c.args.key.now 1 c.args.tables.now) c.new-tests.ensures in
-    children_spend g.S.Store c.args.calls.now c.first_held.new.self c.args.number c.args.key.now c.args.tables.now c.items.result.now are c.known.ensures.thin c.first_held.ensures.uses c.first_held.ensures.rounds
+    children_spend g.S.Store c.args.calls.now c.first_held.new.self c.args.number c.args.key.now c.args.tables.now c.items.result.now are c.known.ensures.thin c.first_held.ensures.asks.uses c.first_held.ensures.asks.rounds
 
 pub returns-in-None-clause-answer : goal.returns-in-None-clause-answer
 returns-in-None-clause-answer g c = λ rows others s.

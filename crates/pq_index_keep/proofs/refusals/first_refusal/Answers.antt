@@ -17,19 +17,19 @@ first_held-requires-clause-share g c =
 
 pub returns-in_err-first_held-clause-spends : goal.returns-in_err-first_held-clause-spends
 returns-in_err-first_held-clause-spends g c =
-    asked_spend g.S.Store c.args.calls.now c.first_held.new.self c.args.own c.items.result.now c.args.new.now c.requires.own (c.items.ensures ∙ c.in_ok-asked.ensures.tests) c.known.ensures.thin c.first_held.ensures.uses c.first_held.ensures.rounds
+    asked_spend g.S.Store c.args.calls.now c.first_held.new.self c.args.own c.items.result.now c.args.new.now c.requires.own (c.items.ensures ∙ c.in_ok-asked.ensures.tests) c.known.ensures.thin c.first_held.ensures.asks.uses c.first_held.ensures.asks.rounds
 
 pub returns-in-None-clause-spends : goal.returns-in-None-clause-spends
 returns-in-None-clause-spends g c =
-    asked_spend g.S.Store c.args.calls.now c.first_held.new.self c.args.own c.items.result.now c.args.new.now c.requires.own (c.items.ensures ∙ c.in_ok-asked.ensures.tests) c.known.ensures.thin c.first_held.ensures.uses c.first_held.ensures.rounds
+    asked_spend g.S.Store c.args.calls.now c.first_held.new.self c.args.own c.items.result.now c.args.new.now c.requires.own (c.items.ensures ∙ c.in_ok-asked.ensures.tests) c.known.ensures.thin c.first_held.ensures.asks.uses c.first_held.ensures.asks.rounds
 
 pub returns-in_err-refusal-in-Some-clause-spends : goal.returns-in_err-refusal-in-Some-clause-spends
 returns-in_err-refusal-in-Some-clause-spends g c =
-    asked_spend g.S.Store c.args.calls.now c.first_held.new.self c.args.own c.items.result.now c.args.new.now c.requires.own (c.items.ensures ∙ c.in_ok-asked.ensures.tests) c.known.ensures.thin c.first_held.ensures.uses c.first_held.ensures.rounds
+    asked_spend g.S.Store c.args.calls.now c.first_held.new.self c.args.own c.items.result.now c.args.new.now c.requires.own (c.items.ensures ∙ c.in_ok-asked.ensures.tests) c.known.ensures.thin c.first_held.ensures.asks.uses c.first_held.ensures.asks.rounds
 
 pub returns-clause-spends : goal.returns-clause-spends
 returns-clause-spends g c =
-    asked_spend g.S.Store c.args.calls.now c.first_held.new.self c.args.own c.items.result.now c.args.new.now c.requires.own (c.items.ensures ∙ c.in_ok-asked.ensures.tests) c.known.ensures.thin c.first_held.ensures.uses c.first_held.ensures.rounds
+    asked_spend g.S.Store c.args.calls.now c.first_held.new.self c.args.own c.items.result.now c.args.new.now c.requires.own (c.items.ensures ∙ c.in_ok-asked.ensures.tests) c.known.ensures.thin c.first_held.ensures.asks.uses c.first_held.ensures.asks.rounds
 
 pub test_refusal-requires-clause-parent : goal.test_refusal-requires-clause-parent
 test_refusal-requires-clause-parent g c =

@@ -14,17 +14,17 @@ pub returns-in_err-ending-clause-err : goal.returns-in_err-ending-clause-err
 returns-in_err-ending-clause-err g c =
     let p = err_from_is_err_and c.from_residual-in_err-ending.result c.from_residual-in_err-ending.ensures.1 in
     let start = c.new-progress.ensures in
-    rw (p.1, p.2) (Stopped-among c.requires start.splitter start.count c.in_ok-begun.ensures.ok.opening c.in_err-ending.ensures.err)
+    rw (p.1, p.2) (Stopped-among c.requires start.splitter start.count c.in_ok-begun.ensures.ok.opening (rw start.form at c.in_err-ending.ensures.err))
 
 pub returns-clause-ok : goal.returns-clause-ok
 returns-clause-ok g c =
     let start = c.new-progress.ensures in
-    IfOk-weaker c.finish.result _ _ (λ ended rest. Finished-of c.requires start.splitter start.count start.refused c.in_ok-begun.ensures.ok.opening c.in_ok-ending.ensures.ok.1 _ ended rest) c.finish.ensures.ok
+    IfOk-weaker c.finish.result _ _ (λ ended rest. Finished-of c.requires start.splitter start.count start.refused c.in_ok-begun.ensures.ok.opening (rw start.form at c.in_ok-ending.ensures.ok.1) _ ended rest) c.finish.ensures.ok
 
 pub returns-clause-err : goal.returns-clause-err
 returns-clause-err g c =
     let start = c.new-progress.ensures in
-    IfErr-weaker c.finish.result _ _ (λ stop rest. Stopped-at_rest c.requires start.splitter start.count start.refused c.in_ok-begun.ensures.ok.opening c.in_ok-ending.ensures.ok.1 _ stop rest) c.finish.ensures.err
+    IfErr-weaker c.finish.result _ _ (λ stop rest. Stopped-at_rest c.requires start.splitter start.count start.refused c.in_ok-begun.ensures.ok.opening (rw start.form at c.in_ok-ending.ensures.ok.1) _ stop rest) c.finish.ensures.err
 
 pub returns-in_err-begun-clause-flawed : goal.returns-in_err-begun-clause-flawed
 returns-in_err-begun-clause-flawed g c =

@@ -1,14 +1,17 @@
-use Rattle.std.proofs.Common.{◌+◌, ◌≤◌, ◌++◌, rules, arith, length, take, drop, length-take, sym, ap, ◌∙◌}
+use Rattle.std.proofs.Common.{◌+◌, ◌≤◌, ◌++◌, rules, arith, length, take, drop, length-take, sym, ap, subst, ◌∙◌}
 use Rattle.std.proofs.lemmas.List.{length-take-le}
 use Rattle.std.proofs.lemmas.Result.{err_from_is_err_and}
 use Rattle.std.specs.Io.KnownBytes.{prepend_known}
 use Rattle.pq_console.specs.Reading.{script_limit}
 use Rattle.pq_console.proofs.Known.{room_front, room_long}
+use Rattle.pq_fill.specs.declared.words.Form.{Form}
+use Rattle.pq_shell.specs.Making.{moment}
+use Rattle.pq_shell.specs.Serving.{ProgressedRun}
 use Rattle.pq_shell.proofs.SoFar.{SoFar-start, SoFar-more, SoFar-taken, SoFar-faulted, SoFar-whole, SoFar-past, SoFar-stopped}
 use Rattle.pq_shell.proofs.run.run_source.Goals as goal
 
 pub loop-taken-init : goal.loop-taken-init
-loop-taken-init g c = record { within = search rules; store_later = search rules; sink_later = search rules; source_later = search rules; counted = search rules; unmoved = search rules; so_far = SoFar-start _ _ _ _ _ }
+loop-taken-init g c = record { within = search rules; store_later = search rules; sink_later = search rules; source_later = search rules; counted = search rules; form = search rules; unmoved = search rules; so_far = SoFar-start _ _ _ _ _ }
 
 pub returns-in-Err-clause-ok : goal.returns-in-Err-clause-ok
 returns-in-Err-clause-ok g c = (_, SoFar-faulted c.loop-taken.invariant.so_far c.in-Err.ensures.kept (search rules))
@@ -25,7 +28,7 @@ returns-in_err-session-clause-err g c =
     let short : c.loop-taken.taken + n ≤ script_limit = omega (arith, c.in-Ok.ensures.within, length-take c.min-want.result c.loop-taken.room, c.min-want.ensures) in
     let small : n ≤ 4096 = omega (arith, c.in-Ok.ensures.within, length-take c.min-want.result c.loop-taken.room, c.min-want.ensures) in
     let next = c.in-Ok.ensures.taken ∙ ap (λ b. prepend_known b (g.I.Source.left c.read.new.self)) (sym (room_front n c.read.new.room behind within)) in
-    rw (p.1, p.2) (SoFar-stopped n (take n (c.read.new.room ++ behind)) c.loop-taken.invariant.so_far next (room_long n c.read.new.room behind within) small short c.in_err-session.ensures.err)
+    rw (p.1, p.2) (SoFar-stopped n (take n (c.read.new.room ++ behind)) c.loop-taken.invariant.so_far next (room_long n c.read.new.room behind within) small short (rw c.loop-taken.invariant.form at c.in_err-session.ensures.err))
 
 pub returns-in_err-session-clause-takes : goal.returns-in_err-session-clause-takes
 returns-in_err-session-clause-takes g c =
@@ -52,8 +55,12 @@ loop-taken-preserved g c =
       sink_later = search rules;
       source_later = search rules;
       counted = omega (arith, c.loop-taken.invariant.counted, c.in-Ok.ensures.counted);
+      form = search rules;
       unmoved = search rules;
-      so_far = SoFar-more n (take n (c.read.new.room ++ behind)) c.loop-taken.invariant.so_far next (room_long n c.read.new.room behind within) c.in_ok-session.ensures.ok;
+      so_far = SoFar-more n (take n (c.read.new.room ++ behind)) c.loop-taken.invariant.so_far next (room_long n c.read.new.room behind within) (subst (λ (form : Form). ProgressedRun form c.loop-taken.session c.in_ok-session.session
+          (moment (g.S.Store.content c.loop-taken.store) (g.O.Sink.held c.loop-taken.sink) c.loop-taken.meter)
+          (moment (g.S.Store.content c.run_part.new.store) (g.O.Sink.held c.run_part.new.sink) c.run_part.new.meter)
+          (take n (c.read.new.room ++ behind)) c.loop-taken.progress c.run_part.new.progress) c.loop-taken.invariant.form c.in_ok-session.ensures.ok);
     }
 
 pub returns-clause-ok : goal.returns-clause-ok

@@ -12,8 +12,9 @@ invariant-loop-taken g l = record {
   sink_later : g.O.Sink.faults l.initial.sink ≤ g.O.Sink.faults l.sink;
   source_later : g.I.Source.faults l.initial.source ≤ g.I.Source.faults l.source;
   counted : g.I.Source.count l.source ≡ g.I.Source.count l.initial.source + l.taken;
-  unmoved : l.form ≡ Check → (l.store ≡ l.initial.store) × (l.meter ≡ l.initial.meter);
-  so_far : ReadSoFar l.form l.taken (g.I.Source.left l.initial.source) (g.I.Source.left l.source) l.initial.session l.session
+  form : l.progress.tally.form ≡ l.initial.progress.tally.form;
+  unmoved : l.initial.progress.tally.form ≡ Check → (l.store ≡ l.initial.store) × (l.meter ≡ l.initial.meter);
+  so_far : ReadSoFar l.initial.progress.tally.form l.taken (g.I.Source.left l.initial.source) (g.I.Source.left l.source) l.initial.session l.session
       (moment (g.S.Store.content l.initial.store) (g.O.Sink.held l.initial.sink) l.initial.meter) (moment (g.S.Store.content l.store) (g.O.Sink.held l.sink) l.meter)
       l.initial.progress l.progress;
 }
