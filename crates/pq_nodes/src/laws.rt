@@ -20,7 +20,7 @@ ghost use Rattle.pq_schema.specs.declared.table.Table.{Table};
 ghost use Rattle.pq_content.specs.Tables.{AllOfKinds, types_at};
 ghost use Rattle.pq_store.specs.declared.damage.Broke.{Broke};
 ghost use Rattle.pq_calls.specs.World.{World};
-ghost use Rattle.pq_plan.specs.Answer.{Question, position, selected_values};
+ghost use Rattle.pq_plan.specs.Answer.{Question, question, position, selected_values};
 ghost use Rattle.pq_plan.specs.Executing.{Makes, Gives};
 ghost use Rattle.pq_plan.specs.Nodes.{Node, plan_nodes, node_step, run_of};
 ghost use Rattle.pq_plan.specs.Plans.{HasChoice, IsPlanNode};
@@ -93,34 +93,29 @@ pub fn combo_laws()
     ensures few { (tables : List Table) (query : Query) (rows : Rows) (params : List Value)
         (after : Option (List Value)) (node : Node) (inputs : List (List (List Value))) → IsQuery tables query
         → KeepsSchema tables rows → IsNodeOf tables query node
-        → length (apply (record { tables = tables; query = query; rows = rows; params = params }) after inputs
-        node) ≤ node_size (length inputs) node }
+        → length (apply (question tables query rows params) after inputs node) ≤ node_size (length inputs) node }
 
     ensures few_made { (tables : List Table) (query : Query) (rows : Rows) (params : List Value)
-        (after : Option (List Value)) (node : Node) (inputs found : List (List (List Value)))
-        → IsQuery tables query → KeepsSchema tables rows → IsNodeOf tables query node
-        → Makes (record { tables = tables; query = query; rows = rows; params = params }) after inputs node
-        found → length found ≤ node_size (length inputs) node }
+        (after : Option (List Value)) (node : Node) (inputs found : List (List (List Value))) → IsQuery tables query
+        → KeepsSchema tables rows → IsNodeOf tables query node
+        → Makes (question tables query rows params) after inputs node found
+        → length found ≤ node_size (length inputs) node }
 
     // A combination's rows fit their tables.
     ensures fits { (tables : List Table) (query : Query) (rows : Rows) (params : List Value) (count : ℕ)
-        (combo : List (List Value)) → IsQuery tables query → KeepsSchema tables rows
-        → count ≤ length query.relations
-        → IsCombo (record { tables = tables; query = query; rows = rows; params = params }) count combo
-        → FitsTables tables query count combo }
+        (combo : List (List Value)) → IsQuery tables query → KeepsSchema tables rows → count ≤ length query.relations
+        → IsCombo (question tables query rows params) count combo → FitsTables tables query count combo }
 
     // The position fits the position columns, of all relations and of those up to a stop.
     ensures positions { (tables : List Table) (query : Query) (rows : Rows) (params : List Value)
         (combo : List (List Value)) → IsQuery tables query → IsResolved tables query
         → FitsTables tables query (length query.relations) combo
-        → AllFit (position_types tables query)
-        (position (record { tables = tables; query = query; rows = rows; params = params }) combo) }
+        → AllFit (position_types tables query) (position (question tables query rows params) combo) }
 
     ensures stop_positions { (tables : List Table) (query : Query) (rows : Rows) (params : List Value) (p : ℕ)
-        (combo : List (List Value)) → IsQuery tables query → IsResolved tables query
-        → HasChoice tables query (Stop p) → FitsTables tables query p combo
-        → AllFit (position_types tables query)
-        (position (record { tables = tables; query = query; rows = rows; params = params }) combo) }
+        (combo : List (List Value)) → IsQuery tables query → IsResolved tables query → HasChoice tables query (Stop p)
+        → FitsTables tables query p combo
+        → AllFit (position_types tables query) (position (question tables query rows params) combo) }
 
     ensures selection { (tables : List Table) (query : Query) (combo : List (List Value)) → IsQuery tables query
         → IsResolved tables query → FitsTables tables query (length query.relations) combo
@@ -134,29 +129,25 @@ pub fn tied_laws()
         (combo : List (List Value)) (cols : List ℕ) → IsResolved tables query → AllFit query.params params
         → FitsTables tables query (rel - 1) combo → is_column_within (set_of cols) (tied_set query rel) ≡ true
         → AllOfKinds (types_at (table_of tables query rel).columns cols)
-        (tied_cells (record { tables = tables; query = query; rows = rows; params = params }) rel cols combo) }
+        (tied_cells (question tables query rows params) rel cols combo) }
 
     // The rows that match are those of the group with these values, and none where one is NULL.
     ensures group { (tables : List Table) (query : Query) (rows : Rows) (params : List Value) (rel : ℕ)
         (combo : List (List Value)) (cols : List ℕ) → IsResolved tables query → AllFit query.params params
         → FitsTables tables query (rel - 1) combo → KeepsSchema tables rows
         → is_column_within (set_of cols) (tied_set query rel) ≡ true
-        → matching (record { tables = tables; query = query; rows = rows; params = params }) rel cols combo
-        ≡ tied_group (relation_at query rel).table cols
-        (tied_cells (record { tables = tables; query = query; rows = rows; params = params }) rel cols combo)
-        rows }
+        → matching (question tables query rows params) rel cols combo ≡ tied_group (relation_at query rel).table cols
+        (tied_cells (question tables query rows params) rel cols combo) rows }
 
     // Where the key is tied, it is the row with this key, and none where the key has NULL.
     ensures row { (tables : List Table) (query : Query) (rows : Rows) (params : List Value) (rel : ℕ)
         (combo : List (List Value)) → IsResolved tables query → AllFit query.params params
         → FitsTables tables query (rel - 1) combo → KeepsSchema tables rows
         → is_lookup (table_of tables query rel) (tied_set query rel) ≡ true
-        → take 1 (matching (record { tables = tables; query = query; rows = rows; params = params }) rel
-        (table_of tables query rel).key combo)
-        ≡ cond (has_null (tied_cells (record { tables = tables; query = query; rows = rows; params = params }) rel
+        → take 1 (matching (question tables query rows params) rel (table_of tables query rel).key combo)
+        ≡ cond (has_null (tied_cells (question tables query rows params) rel
         (table_of tables query rel).key combo)) [] (option_to_list (row_at tables rows (relation_at query rel).table
-        (tied_cells (record { tables = tables; query = query; rows = rows; params = params }) rel
-        (table_of tables query rel).key combo))) }
+        (tied_cells (question tables query rows params) rel (table_of tables query rel).key combo))) }
 
     // The range of a sequence that begins with the columns, under the tied values of its first columns, has the rows
     // that match.
@@ -165,8 +156,7 @@ pub fn tied_laws()
         → AllFit query.params params → FitsTables tables query (rel - 1) combo → KeepsSchema tables rows
         → is_column_within (set_of cols) (tied_set query rel) ≡ true
         → begins_with (sequence_of (table_of tables query rel) access) (set_of cols) ≡ true
-        → HasRange (record { tables = tables; query = query; rows = rows; params = params }) rel cols access
-        combo }
+        → HasRange (question tables query rows params) rel cols access combo }
 
     // What each input is given in some order makes what all are given in some order.
     ensures ranges { (q : Question) (rel : ℕ) (cols : List ℕ) (found : List (List Value)
