@@ -20,7 +20,7 @@ use Rattle.pq_schema.specs.Sequences.{sequence_of}
 use Rattle.pq_store.specs.Content.{Content}
 use Rattle.pq_store.specs.Counts.{AllowedCounts}
 use Rattle.pq_store.specs.declared.damage.Broke.{Broke}
-use Rattle.pq_calls.specs.Calls.{Uses}
+use Rattle.pq_store.specs.declared.store.Store.{Ghosts}
 use Rattle.pq_calls.specs.World.{World, Affords}
 use Rattle.pq_calls.specs.declared.calls.Calls.{Calls}
 use Rattle.pq_content.specs.Pairs.{Pair, HoldsRows}
@@ -31,7 +31,9 @@ use Rattle.pq_plan.specs.Running.{matching, ranged, limit_columns}
 use Rattle.pq_nodes.specs.Combos.{FitsTables}
 use Rattle.pq_nodes.specs.Operators.{AreInputs, AffordsNode, AreFound, AnswersNode, StopsReading, IsSoundOverRows}
 use Rattle.pq_nodes.specs.Paid.{node_cost}
+use Rattle.pq_nodes.specs.Rounds.{access_rounds}
 use Rattle.pq_nodes.proofs.Undamaged.{read_undamaged}
+use Rattle.pq_scan.specs.Request.{Spends, SpendsNode}
 use Rattle.pq_index_scan.specs.declared.limit.LimitRange.{LimitRange}
 use Rattle.pq_index_scan.specs.Ranged.{own_limit, limit_node, node_range, IsRangeOf, AreFollowed, AreRanged, AddsRanged}
 use Rattle.pq_index_scan.proofs.Ranging.{fits_next}
@@ -108,11 +110,11 @@ module _ (tables : List Table) (query : Query) (range : LimitRange) (is : IsRang
         subst (λ (ops : ℕ). Affords allowed ops (inputs * range.n + inputs * range.n)) (ops_are inputs)
         (subst (λ (entries : ℕ). Affords allowed (inputs * (1 + range.n)) entries) (entries_are inputs) left)
 
-    pub secondary_uses : {S L : Type 0} (content : S → Option Content) (faults : S → ℕ) (a b : Calls S L) (inputs : ℕ) → Uses content faults a b (inputs + inputs * range.n) (inputs * range.n + inputs * range.n) → Uses content faults a b (inputs * (limit_cost (is_primary_access range.access) range.n).ops) (inputs * (limit_cost (is_primary_access range.access) range.n).entries)
-    secondary_uses content faults a b inputs h =
-        subst (λ (c : Bound). Uses content faults a b (inputs * c.ops) (inputs * c.entries)) (sym index_cost)
-        (subst (λ (ops : ℕ). Uses content faults a b ops (inputs * (2 * range.n))) (sym (ops_are inputs))
-        (subst (λ (entries : ℕ). Uses content faults a b (inputs + inputs * range.n) entries) (sym (entries_are inputs)) h))
+    pub secondary_spends : {S L : Type 0} (s : Ghosts S L) (a b : Calls S L) (inputs : ℕ) → Spends s a b (inputs + inputs * range.n) (inputs * range.n + inputs * range.n) 2 → Spends s a b (inputs * (limit_cost (is_primary_access range.access) range.n).ops) (inputs * (limit_cost (is_primary_access range.access) range.n).entries) (access_rounds range.access)
+    secondary_spends s a b inputs h =
+        subst (λ (access : Access). Spends s a b (inputs * (limit_cost (is_primary_access access) range.n).ops) (inputs * (limit_cost (is_primary_access access) range.n).entries) (access_rounds access)) (sym secondary)
+        (subst (λ (ops : ℕ). Spends s a b ops (inputs * (2 * range.n)) 2) (sym (ops_are inputs))
+        (subst (λ (entries : ℕ). Spends s a b (inputs + inputs * range.n) entries 2) (sym (entries_are inputs)) h))
 
   -- ---- the node's clauses, from those of its range
 
@@ -142,8 +144,10 @@ module _ (tables : List Table) (query : Query) (range : LimitRange) (is : IsRang
         sym (node_cost_is inputs) ∙ (λ i. times inputs (limit_cost (is_primary_access range.access) (is.n i))) in
         subst (λ (b : Bound). Affords allowed b.ops b.entries) same h
 
-    pub node_uses : {S L : Type 0} (content : S → Option Content) (faults : S → ℕ) (a b : Calls S L) (inputs : ℕ) → Uses content faults a b (inputs * (limit_cost (is_primary_access range.access) range.n).ops) (inputs * (limit_cost (is_primary_access range.access) range.n).entries) → Uses content faults a b (node_cost inputs (limit_node tables query rel limit access)).ops (node_cost inputs (limit_node tables query rel limit access)).entries
-    node_uses content faults a b inputs h = subst (λ (c : Bound). Uses content faults a b c.ops c.entries) (node_cost_is inputs) h
+    pub node_spends : {S L : Type 0} (s : Ghosts S L) (a b : Calls S L) (inputs : ℕ) → Spends s a b (inputs * (limit_cost (is_primary_access range.access) range.n).ops) (inputs * (limit_cost (is_primary_access range.access) range.n).entries) (access_rounds range.access) → SpendsNode s a b inputs (limit_node tables query rel limit access)
+    node_spends s a b inputs h =
+        subst (λ (c : Bound). Spends s a b c.ops c.entries (access_rounds access)) (node_cost_is inputs)
+        (subst (λ (x : Access). Spends s a b (inputs * (limit_cost (is_primary_access range.access) range.n).ops) (inputs * (limit_cost (is_primary_access range.access) range.n).entries) (access_rounds x)) own_access h)
 
     pub node_found : (inputs : ℕ) (result : Result (List (List (List Value))) Broke) → IfOk result (λ found. length found ≤ inputs * range.n) → IfOk result (AllByRecursion (FitsTables tables query range.rel)) → IfOk result (AreFound tables query rel inputs (limit_node tables query rel limit access))
     node_found inputs (Err error) few fit = tt
@@ -161,8 +165,3 @@ module _ (tables : List Table) (query : Query) (range : LimitRange) (is : IsRang
         (subst (λ (r : ℕ). AddsRanged told tables query params r range.limit inputs [] found) own_rel h) in
         let made = own rows others holds in
         subst (IsPermutation (ranged q rel (limit_columns q rel limit) inputs)) (sym made.1) made.2
-
--- reads that give up over a content that holds rows tell no damage
-pub node_undamaged : {A : Type 0} (tables : List Table) (a b : World) (result : Result A Broke) → IfErr result (StopsReading tables a b) → IfErr result (IsSoundOverRows a.told tables)
-node_undamaged tables a b (Ok x) h = tt
-node_undamaged tables a b (Err error) h = read_undamaged tables a b error h

@@ -28,6 +28,7 @@ use Rattle.pq_nodes.specs.Inverse.{node_limit_at}
 use Rattle.pq_nodes.specs.Operators.{IsReadyNode}
 use Rattle.pq_operands.specs.Ties.{cells_tied}
 use Rattle.pq_entries.specs.Entries.{OfEachRange, AreRowsWithin, AreKeysWithin, AreSequenceRows, AreFirstRows, AreFirstValues, IsKeyThere}
+use Rattle.pq_scan.specs.declared.request.Request.{Request}
 use Rattle.pq_scan.specs.Scanned.{AreReadOf}
 use Rattle.pq_index_scan.specs.declared.limit.Entries.{Entries}
 use Rattle.pq_index_scan.specs.declared.limit.LimitRange.{LimitRange}
@@ -188,3 +189,44 @@ AddsRanged told tables query params rel limit inputs before after =
     let q = question tables query rows params in
     (made : List (List (List Value))) × (after ≡ before ++ made)
     × IsPermutation (ranged q rel (limit_columns q rel limit) inputs) made
+
+-- ---- the same for what is asked
+
+abbrev pub limit_node_for : Request → ℕ → ℕ → Access → Node
+limit_node_for request rel limit access = limit_node request.catalog.now.tables request.query.now rel limit access
+
+abbrev pub IsRangeFor : Request → LimitRange → Type 0
+IsRangeFor request range = IsRangeOf request.catalog.now.tables request.query.now range
+
+abbrev pub first_of_range_for : Request → LimitRange → List (List Value) → List ℕ
+first_of_range_for request range input =
+    first_of_range request.catalog.now.tables request.query.now request.params.now range input
+
+abbrev pub ends_for : Request → LimitRange → List (List Value) → Option Ends
+ends_for request range input =
+    ends_behind request.catalog.now.tables request.query.now request.params.now range input
+
+abbrev pub IsPartFor : Option Content → Request → LimitRange → List (List Value) → List StoredPair → Type 0
+IsPartFor told request range input part =
+    IsPartBehind told request.catalog.now.tables request.query.now request.params.now range input part
+
+abbrev pub AreEntriesFor : Option Content → Request → LimitRange → List (List (List Value))
+    → List (List (List Value)) → Entries → Type 0
+AreEntriesFor told request range inputs first entries =
+    AreEntriesBehind told request.catalog.now.tables request.query.now request.params.now range inputs first entries
+
+abbrev pub AreFollowedFor : Request → LimitRange → List (List (List Value)) → List (List (List Value)) → Content
+    → Type 0
+AreFollowedFor request range inputs found content =
+    AreFollowed request.catalog.now.tables request.query.now request.params.now range inputs found content
+
+abbrev pub AreRangedFor : Request → ℕ → ℕ → Access → List (List (List Value)) → List (List (List Value)) → Content
+    → Type 0
+AreRangedFor request rel limit access inputs found content =
+    AreRanged request.catalog.now.tables request.query.now request.params.now rel limit access inputs found content
+
+abbrev pub AddsRangedFor : Option Content → Request → LimitRange → List (List (List Value))
+    → List (List (List Value)) → List (List (List Value)) → Type 0
+AddsRangedFor told request range inputs before after =
+    AddsRanged told request.catalog.now.tables request.query.now request.params.now range.rel range.limit inputs
+    before after

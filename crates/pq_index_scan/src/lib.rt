@@ -4,5 +4,5 @@
 mod limit;
 mod stop;
 
-pub use limit::limit_range;
+pub use limit::{limit_range, range_inputs};
 pub use stop::index_scan;

@@ -6,17 +6,16 @@ ghost use Rattle.pq_schema.specs.Resolved.{IsResolved};
 ghost use Rattle.pq_schema.specs.Sound.{AreColumns};
 ghost use Rattle.pq_store.specs.Breaks.{IsAnswered};
 ghost use Rattle.pq_store.specs.Content.{entry, AreAnswers};
-ghost use Rattle.pq_calls.specs.Calls.{Uses, Fails};
 ghost use Rattle.pq_calls.specs.World.{Affords, where_told, world};
 ghost use Rattle.pq_content.specs.Tables.{first_columns};
 ghost use Rattle.pq_plan.specs.Cost.{is_primary_access};
 ghost use Rattle.pq_nodes.specs.Combos.{FitsTables};
 ghost use Rattle.pq_nodes.specs.Operators.{IsAsked, IsReadyNode, AreInputs, AffordsNode, ReadsNode, AreFound, AnswersNode, ShowsRead, StopsReading, IsSoundOverRows};
-ghost use Rattle.pq_nodes.specs.Paid.{node_cost};
 ghost use Rattle.pq_nodes.specs.Rounds.{access_rounds, node_rounds};
 ghost use Rattle.pq_operands.specs.Ties.{cells_tied};
 ghost use Rattle.pq_entries.specs.Entries.{IsSequence, OfEachRange, IsUnread, OneShows, TellsPair, key_front};
-ghost use Rattle.pq_index_scan.specs.Ranged.{limit_node, first_of_range, ends_behind, IsRangeOf, IsPartBehind, FollowsPart, AddsPart, AreEntriesBehind, AreFollowed, AreRanged, followed_at, AddsRanged};
+ghost use Rattle.pq_scan.specs.Request.{IsAskedFor, IsNodeFor, AreInputsFor, AreFoundFor, AnswersFor, Spends, SpendsNode, StopsRead};
+ghost use Rattle.pq_index_scan.specs.Ranged.{limit_node, limit_node_for, first_of_range_for, ends_for, IsRangeOf, IsRangeFor, IsPartFor, FollowsPart, AddsPart, AreEntriesFor, AreFollowedFor, AreRanged, AreRangedFor, followed_at, AddsRangedFor};
 
 use pq_base::{Bytes, ColSet, List, NoMem, Row, has_null};
 use pq_calls::Calls;
@@ -25,6 +24,7 @@ use pq_key_code::past;
 use pq_operands::tied_cells;
 use pq_plan::Combo;
 use pq_predicates::{table_number, table_of};
+use pq_scan::Request;
 use pq_schema::{Access, Catalog, KeyPart, Query, sequence};
 use pq_store::{Allowance, Broke, Ends, Meter, Pair, Store};
 use std::alloc::Global;
@@ -91,18 +91,18 @@ fn range_of(
 /// The beginning of the keys of the range behind an input, by the tied values of its first columns.
 fn range_start(
     alloc: Global,
-    catalog: &Catalog,
-    query: &Query,
-    params: &Row,
+    request: &Request<'_>,
     range: &LimitRange,
     input: &Combo,
     values: &Row,
 ) -> Result<Bytes, NoMem>
-    requires asked { IsAsked catalog.now.tables query.now params.now }
-    requires range { IsRangeOf catalog.now.tables query.now range.now }
-    requires values { values.now ≡ cells_tied query.now params.now range.now.rel input.now range.now.first }
-    ensures { IfOk result (λ low. low ≡ first_of_range catalog.now.tables query.now params.now range.now input.now) }
+    requires asked { IsAskedFor request.now }
+    requires range { IsRangeFor request.now range.now }
+    requires values { values.now ≡ cells_tied request.now.query.now request.now.params.now range.now.rel input.now
+        range.now.first }
+    ensures { IfOk result (λ low. low ≡ first_of_range_for request.now range.now input.now) }
 {
+    let Request { catalog, query, .. } = *request;
     catalog.known();
     let table = table_of(catalog, query, range.rel);
     sequence_key(alloc, range.number, table, range.access, values)
@@ -111,21 +111,20 @@ fn range_start(
 /// The ends of the range behind an input; none where a tied value is NULL.
 fn range_ends(
     alloc: Global,
-    catalog: &Catalog,
-    query: &Query,
-    params: &Row,
+    request: &Request<'_>,
     range: &LimitRange,
     input: &Combo,
 ) -> Result<Option<Ends>, NoMem>
-    requires asked { IsAsked catalog.now.tables query.now params.now }
-    requires range { IsRangeOf catalog.now.tables query.now range.now }
-    ensures { IfOk result (λ ends. ends ≡ ends_behind catalog.now.tables query.now params.now range.now input.now) }
+    requires asked { IsAskedFor request.now }
+    requires range { IsRangeFor request.now range.now }
+    ensures { IfOk result (λ ends. ends ≡ ends_for request.now range.now input.now) }
 {
+    let Request { query, params, .. } = *request;
     let values = tied_cells(alloc, query, params, range.rel, input, range.first.items())?;
     if has_null(values.items()) {
         return Ok(None);
     }
-    let low = range_start(alloc, catalog, query, params, range, input, &values)?;
+    let low = range_start(alloc, request, range, input, &values)?;
     let high = past(alloc, Bytes::of_bytes(alloc, low.items())?)?;
     Ok(Some(Ends { low, high }))
 }
@@ -133,20 +132,17 @@ fn range_ends(
 /// The same for each input.
 fn all_ends(
     alloc: Global,
-    catalog: &Catalog,
-    query: &Query,
-    params: &Row,
+    request: &Request<'_>,
     range: &LimitRange,
     inputs: &[Combo],
 ) -> Result<List<Option<Ends>>, NoMem>
-    requires asked { IsAsked catalog.now.tables query.now params.now }
-    requires range { IsRangeOf catalog.now.tables query.now range.now }
-    ensures { IfOk result (λ asks. asks
-        ≡ map (ends_behind catalog.now.tables query.now params.now range.now) inputs.now) }
+    requires asked { IsAskedFor request.now }
+    requires range { IsRangeFor request.now range.now }
+    ensures { IfOk result (λ asks. asks ≡ map (ends_for request.now range.now) inputs.now) }
 {
     let mut asks = List::new(alloc);
     for input in inputs {
-        let ends = range_ends(alloc, catalog, query, params, range, input)?;
+        let ends = range_ends(alloc, request, range, input)?;
         asks.push(alloc, ends)?;
     }
     Ok(asks)
@@ -155,27 +151,21 @@ fn all_ends(
 /// The pairs of the range behind each input, none where a tied value is NULL: all are asked at once.
 fn all_parts<S: Store<L>, L: Ledger>(
     alloc: Global,
-    catalog: &Catalog,
-    query: &Query,
-    params: &Row,
+    request: &Request<'_>,
     range: &LimitRange,
     inputs: &[Combo],
     calls: &mut Calls<S, L>,
 ) -> Result<List<List<Pair>>, Broke>
-    requires asked { IsAsked catalog.now.tables query.now params.now }
-    requires range { IsRangeOf catalog.now.tables query.now range.now }
+    requires asked { IsAskedFor request.now }
+    requires range { IsRangeFor request.now range.now }
     requires share { Affords calls.old.allowance.now (length inputs.now) (length inputs.now * range.now.n) }
-    ensures uses { Uses S.content S.faults calls.old calls.new (length inputs.now) (length inputs.now * range.now.n) }
-    ensures cause { IfErr result (Fails (where_told (ShowsRead catalog.now.tables)) S.content S.faults calls.old
-        calls.new) }
-    ensures rounds { S.rounds calls.new.store.now ≤ S.rounds calls.old.store.now + 1 }
-    ensures answered { IfErr result (IsAnswered S.answers) }
+    ensures spends { Spends S.Store calls.old calls.new (length inputs.now) (length inputs.now * range.now.n) 1 }
+    ensures stops { IfErr result (StopsRead S.Store request.now.catalog.now.tables calls.old calls.new) }
     ensures long { IfOk result (λ parts. length parts ≡ length inputs.now) }
-    ensures parts { IfOk result (AllZip (IsPartBehind (S.content calls.old.store.now) catalog.now.tables query.now
-        params.now range.now) inputs.now) }
+    ensures parts { IfOk result (AllZip (IsPartFor (S.content calls.old.store.now) request.now range.now) inputs.now) }
     ensures answers { IfOk result (AllByRecursion (AreAnswers S.answers)) }
 {
-    let asks = all_ends(alloc, catalog, query, params, range, inputs)?;
+    let asks = all_ends(alloc, request, range, inputs)?;
     calls.ranges(alloc, asks.items(), range.n)
 }
 
@@ -226,36 +216,31 @@ fn follow_part(
 /// Each input followed by each row of the range behind it, in the primary sequence.
 fn range_primary<S: Store<L>, L: Ledger>(
     alloc: Global,
-    catalog: &Catalog,
-    query: &Query,
-    params: &Row,
+    request: &Request<'_>,
     range: &LimitRange,
     inputs: &[Combo],
     calls: &mut Calls<S, L>,
 ) -> Result<List<Combo>, Broke>
-    requires asked { IsAsked catalog.now.tables query.now params.now }
-    requires range { IsRangeOf catalog.now.tables query.now range.now }
+    requires asked { IsAskedFor request.now }
+    requires range { IsRangeFor request.now range.now }
     requires primary { range.now.access ≡ Access.Primary }
-    requires inputs { AreInputs catalog.now.tables query.now range.now.rel inputs.now }
+    requires inputs { AreInputsFor request.now range.now.rel inputs.now }
     requires share { Affords calls.old.allowance.now (length inputs.now) (length inputs.now * range.now.n) }
-    ensures uses { Uses S.content S.faults calls.old calls.new (length inputs.now) (length inputs.now * range.now.n) }
-    ensures cause { IfErr result (Fails (where_told (ShowsRead catalog.now.tables)) S.content S.faults calls.old
-        calls.new) }
-    ensures rounds { S.rounds calls.new.store.now ≤ S.rounds calls.old.store.now + 1 }
-    ensures answered { IfErr result (IsAnswered S.answers) }
+    ensures spends { Spends S.Store calls.old calls.new (length inputs.now) (length inputs.now * range.now.n) 1 }
+    ensures stops { IfErr result (StopsRead S.Store request.now.catalog.now.tables calls.old calls.new) }
     ensures few { IfOk result (λ found. length found ≤ length inputs.now * range.now.n) }
-    ensures fit { IfOk result (AllByRecursion (FitsTables catalog.now.tables query.now range.now.rel)) }
+    ensures fit { IfOk result (AllByRecursion (FitsTables request.now.catalog.now.tables request.now.query.now
+        range.now.rel)) }
     ensures codes { IfOk result (λ found. IfSome (S.content calls.old.store.now)
-        (AreFollowed catalog.now.tables query.now params.now range.now inputs.now found)) }
-    ensures answer { IfOk result (AddsRanged (S.content calls.old.store.now) catalog.now.tables query.now
-        params.now range.now.rel range.now.limit inputs.now []) }
+        (AreFollowedFor request.now range.now inputs.now found)) }
+    ensures answer { IfOk result (AddsRangedFor (S.content calls.old.store.now) request.now range.now inputs.now []) }
 {
-    let parts = all_parts(alloc, catalog, query, params, range, inputs, calls)?;
+    let parts = all_parts(alloc, request, range, inputs, calls)?;
     let mut found = List::new(alloc);
     for place in 0..inputs.len() {
         follow_part(
             alloc,
-            catalog,
+            request.catalog,
             range.number,
             &inputs[place],
             parts.items()[place].items(),
@@ -313,33 +298,27 @@ fn add_part(
 /// The entries of the ranges behind the inputs, in the order of the inputs.
 fn range_entries<S: Store<L>, L: Ledger>(
     alloc: Global,
-    catalog: &Catalog,
-    query: &Query,
-    params: &Row,
+    request: &Request<'_>,
     range: &LimitRange,
     inputs: &[Combo],
     calls: &mut Calls<S, L>,
 ) -> Result<Entries, Broke>
-    requires asked { IsAsked catalog.now.tables query.now params.now }
-    requires range { IsRangeOf catalog.now.tables query.now range.now }
-    requires inputs { AreInputs catalog.now.tables query.now range.now.rel inputs.now }
+    requires asked { IsAskedFor request.now }
+    requires range { IsRangeFor request.now range.now }
+    requires inputs { AreInputsFor request.now range.now.rel inputs.now }
     requires share { Affords calls.old.allowance.now (length inputs.now) (length inputs.now * range.now.n) }
-    ensures uses { Uses S.content S.faults calls.old calls.new (length inputs.now) (length inputs.now * range.now.n) }
-    ensures cause { IfErr result (Fails (where_told (ShowsRead catalog.now.tables)) S.content S.faults calls.old
-        calls.new) }
-    ensures rounds { S.rounds calls.new.store.now ≤ S.rounds calls.old.store.now + 1 }
-    ensures answered { IfErr result (IsAnswered S.answers) }
-    ensures entries { IfOk result (AreEntriesBehind (S.content calls.old.store.now) catalog.now.tables query.now
-        params.now range.now inputs.now inputs.now) }
+    ensures spends { Spends S.Store calls.old calls.new (length inputs.now) (length inputs.now * range.now.n) 1 }
+    ensures stops { IfErr result (StopsRead S.Store request.now.catalog.now.tables calls.old calls.new) }
+    ensures entries { IfOk result (AreEntriesFor (S.content calls.old.store.now) request.now range.now inputs.now inputs.now) }
 {
-    let parts = all_parts(alloc, catalog, query, params, range, inputs, calls)?;
+    let parts = all_parts(alloc, request, range, inputs, calls)?;
     let mut entries = Entries {
         places: List::new(alloc),
         values: List::new(alloc),
     };
     for place in 0..inputs.len() {
         let part = parts.items()[place].items();
-        add_part(alloc, catalog, range, place, part, &mut entries)?;
+        add_part(alloc, request.catalog, range, place, part, &mut entries)?;
     }
     Ok(entries)
 }
@@ -369,36 +348,31 @@ fn follow_at(
 /// of all entries are asked at once.
 fn range_secondary<S: Store<L>, L: Ledger>(
     alloc: Global,
-    catalog: &Catalog,
-    query: &Query,
-    params: &Row,
+    request: &Request<'_>,
     range: &LimitRange,
     index: u8,
     inputs: &[Combo],
     calls: &mut Calls<S, L>,
 ) -> Result<List<Combo>, Broke>
-    requires asked { IsAsked catalog.now.tables query.now params.now }
-    requires range { IsRangeOf catalog.now.tables query.now range.now }
+    requires asked { IsAskedFor request.now }
+    requires range { IsRangeFor request.now range.now }
     requires secondary { range.now.access ≡ Access.Secondary index }
-    requires inputs { AreInputs catalog.now.tables query.now range.now.rel inputs.now }
+    requires inputs { AreInputsFor request.now range.now.rel inputs.now }
     requires share { Affords calls.old.allowance.now (length inputs.now + length inputs.now * range.now.n)
         (length inputs.now * range.now.n + length inputs.now * range.now.n) }
-    ensures uses { Uses S.content S.faults calls.old calls.new (length inputs.now + length inputs.now * range.now.n)
-        (length inputs.now * range.now.n + length inputs.now * range.now.n) }
-    ensures cause { IfErr result (Fails (where_told (ShowsRead catalog.now.tables)) S.content S.faults calls.old
-        calls.new) }
-    ensures rounds { S.rounds calls.new.store.now ≤ S.rounds calls.old.store.now + 2 }
-    ensures answered { IfErr result (IsAnswered S.answers) }
+    ensures spends { Spends S.Store calls.old calls.new (length inputs.now + length inputs.now * range.now.n)
+        (length inputs.now * range.now.n + length inputs.now * range.now.n) 2 }
+    ensures stops { IfErr result (StopsRead S.Store request.now.catalog.now.tables calls.old calls.new) }
     ensures few { IfOk result (λ found. length found ≤ length inputs.now * range.now.n) }
-    ensures fit { IfOk result (AllByRecursion (FitsTables catalog.now.tables query.now range.now.rel)) }
+    ensures fit { IfOk result (AllByRecursion (FitsTables request.now.catalog.now.tables request.now.query.now
+        range.now.rel)) }
     ensures codes { IfOk result (λ found. IfSome (S.content calls.old.store.now)
-        (AreFollowed catalog.now.tables query.now params.now range.now inputs.now found)) }
-    ensures answer { IfOk result (AddsRanged (S.content calls.old.store.now) catalog.now.tables query.now
-        params.now range.now.rel range.now.limit inputs.now []) }
+        (AreFollowedFor request.now range.now inputs.now found)) }
+    ensures answer { IfOk result (AddsRangedFor (S.content calls.old.store.now) request.now range.now inputs.now []) }
 {
-    let entries = range_entries(alloc, catalog, query, params, range, inputs, calls)?;
+    let entries = range_entries(alloc, request, range, inputs, calls)?;
     let values = entries.values.items();
-    let rows = named_rows(alloc, catalog, range.number, index, values, calls)?;
+    let rows = named_rows(alloc, request.catalog, range.number, index, values, calls)?;
     let found = follow_at(alloc, inputs, entries.places.items(), rows)?;
     Ok(found)
 }
@@ -406,76 +380,75 @@ fn range_secondary<S: Store<L>, L: Ledger>(
 /// Each input followed by each row that matches.
 fn range_each<S: Store<L>, L: Ledger>(
     alloc: Global,
-    catalog: &Catalog,
-    query: &Query,
-    params: &Row,
+    request: &Request<'_>,
     range: &LimitRange,
-    inputs: &List<Combo>,
+    inputs: &[Combo],
     calls: &mut Calls<S, L>,
 ) -> Result<List<Combo>, Broke>
-    requires asked { IsAsked catalog.now.tables query.now params.now }
-    requires range { IsRangeOf catalog.now.tables query.now range.now }
-    requires inputs { AreInputs catalog.now.tables query.now range.now.rel inputs.now }
+    requires asked { IsAskedFor request.now }
+    requires range { IsRangeFor request.now range.now }
+    requires inputs { AreInputsFor request.now range.now.rel inputs.now }
     requires share { AffordsNode calls.old.allowance.now (length inputs.now)
-        (limit_node catalog.now.tables query.now range.now.rel range.now.limit range.now.access) }
-    ensures uses { Uses S.content S.faults calls.old calls.new
+        (limit_node_for request.now range.now.rel range.now.limit range.now.access) }
+    ensures spends { Spends S.Store calls.old calls.new
         (length inputs.now * (limit_cost (is_primary_access range.now.access) range.now.n).ops)
-        (length inputs.now * (limit_cost (is_primary_access range.now.access) range.now.n).entries) }
-    ensures cause { IfErr result (Fails (where_told (ShowsRead catalog.now.tables)) S.content S.faults calls.old
-        calls.new) }
-    ensures rounds { S.rounds calls.new.store.now ≤ S.rounds calls.old.store.now + access_rounds range.now.access }
-    ensures answered { IfErr result (IsAnswered S.answers) }
+        (length inputs.now * (limit_cost (is_primary_access range.now.access) range.now.n).entries)
+        (access_rounds range.now.access) }
+    ensures stops { IfErr result (StopsRead S.Store request.now.catalog.now.tables calls.old calls.new) }
     ensures few { IfOk result (λ found. length found ≤ length inputs.now * range.now.n) }
-    ensures fit { IfOk result (AllByRecursion (FitsTables catalog.now.tables query.now range.now.rel)) }
+    ensures fit { IfOk result (AllByRecursion (FitsTables request.now.catalog.now.tables request.now.query.now
+        range.now.rel)) }
     ensures codes { IfOk result (λ found. IfSome (S.content calls.old.store.now)
-        (AreFollowed catalog.now.tables query.now params.now range.now inputs.now found)) }
-    ensures answer { IfOk result (AddsRanged (S.content calls.old.store.now) catalog.now.tables query.now
-        params.now range.now.rel range.now.limit inputs.now []) }
+        (AreFollowedFor request.now range.now inputs.now found)) }
+    ensures answer { IfOk result (AddsRangedFor (S.content calls.old.store.now) request.now range.now inputs.now []) }
 {
-    let inputs = inputs.items();
     match range.access {
-        Access::Primary => range_primary(alloc, catalog, query, params, range, inputs, calls),
-        Access::Secondary(index) => range_secondary(
-            alloc, catalog, query, params, range, index, inputs, calls,
-        ),
+        Access::Primary => range_primary(alloc, request, range, inputs, calls),
+        Access::Secondary(index) => range_secondary(alloc, request, range, index, inputs, calls),
     }
 }
 
-/// The same for the node of a limit, by its number from 1.
-fn run_range<S: Store<L>, L: Ledger>(
+/// Each input followed by each row of the relation that has the tied values at the columns of the limit, by its
+/// number from 1, in a sequence that begins with them.
+pub fn range_inputs<S: Store<L>, L: Ledger>(
     alloc: Global,
-    catalog: &Catalog,
-    query: &Query,
-    params: &Row,
+    request: &Request<'_>,
     rel: u8,
     limit: u8,
     access: Access,
-    inputs: &List<Combo>,
+    inputs: &[Combo],
     calls: &mut Calls<S, L>,
 ) -> Result<List<Combo>, Broke>
-    requires asked { IsAsked catalog.now.tables query.now params.now }
-    requires ready { IsReadyNode catalog.now.tables query.now
-        (limit_node catalog.now.tables query.now rel limit access) }
-    requires inputs { AreInputs catalog.now.tables query.now rel inputs.now }
+    requires asked { IsAskedFor request.now }
+    requires ready { IsNodeFor request.now (limit_node_for request.now rel limit access) }
+    requires inputs { AreInputsFor request.now rel inputs.now }
     requires share { AffordsNode calls.old.allowance.now (length inputs.now)
-        (limit_node catalog.now.tables query.now rel limit access) }
-    ensures uses { Uses S.content S.faults calls.old calls.new
-        (node_cost (length inputs.now) (limit_node catalog.now.tables query.now rel limit access)).ops
-        (node_cost (length inputs.now) (limit_node catalog.now.tables query.now rel limit access)).entries }
-    ensures cause { IfErr result (Fails (where_told (ShowsRead catalog.now.tables)) S.content S.faults calls.old
-        calls.new) }
-    ensures rounds { S.rounds calls.new.store.now ≤ S.rounds calls.old.store.now
-        + node_rounds (limit_node catalog.now.tables query.now rel limit access) }
-    ensures answered { IfErr result (IsAnswered S.answers) }
-    ensures found { IfOk result (AreFound catalog.now.tables query.now rel (length inputs.now)
-        (limit_node catalog.now.tables query.now rel limit access)) }
+        (limit_node_for request.now rel limit access) }
+    ensures spends { SpendsNode S.Store calls.old calls.new (length inputs.now)
+        (limit_node_for request.now rel limit access) }
+    ensures stops { IfErr result (StopsRead S.Store request.now.catalog.now.tables calls.old calls.new) }
+    ensures found { IfOk result (AreFoundFor request.now rel (length inputs.now)
+        (limit_node_for request.now rel limit access)) }
+    // Over any content that is told, no row is passed over, and none stands in for another.
     ensures codes { IfOk result (λ found. IfSome (S.content calls.old.store.now)
-        (AreRanged catalog.now.tables query.now params.now rel limit access inputs.now found)) }
-    ensures answer { IfOk result (AnswersNode (S.content calls.old.store.now) catalog.now.tables query.now
-        params.now None inputs.now (limit_node catalog.now.tables query.now rel limit access)) }
+        (AreRangedFor request.now rel limit access inputs.now found)) }
+    ensures answer { IfOk result (AnswersFor (S.content calls.old.store.now) request.now inputs.now
+        (limit_node_for request.now rel limit access)) }
 {
-    let range = range_of(alloc, catalog, query, rel, limit, access)?;
-    range_each(alloc, catalog, query, params, &range, inputs, calls)
+    let range = range_of(alloc, request.catalog, request.query, rel, limit, access)?;
+    range_each(alloc, request, &range, inputs, calls)
+}
+
+/// What is asked from the first row on.
+fn from_start<'a>(catalog: &'a Catalog, query: &'a Query, params: &'a Row) -> Request<'a>
+    ensures { result ≡ record { catalog = catalog.entry; query = query.entry; params = params.entry; after = None } }
+{
+    Request {
+        catalog,
+        query,
+        params,
+        after: None,
+    }
 }
 
 /// Each input followed by each row of the relation that has the tied values at the columns of the limit: one
@@ -520,12 +493,19 @@ pub fn limit_range<S: Store<L>, L: Ledger>(
     ensures answered { IfErr result (IsAnswered S.answers) }
     ensures undamaged { IfErr result (IsSoundOverRows (S.content store.old) catalog.now.tables) }
 {
+    let request = from_start(catalog, query, params);
     let mut calls = Calls {
         store,
         allowance,
         meter,
     };
-    run_range(
-        alloc, catalog, query, params, rel, limit, access, &inputs, &mut calls,
+    range_inputs(
+        alloc,
+        &request,
+        rel,
+        limit,
+        access,
+        inputs.items(),
+        &mut calls,
     )
 }

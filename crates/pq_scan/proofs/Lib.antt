@@ -12,4 +12,5 @@ pub mod Permuted
 pub mod Reading
 pub mod Running
 pub mod Steps
+pub mod Stopping
 pub mod Told

@@ -8,6 +8,7 @@ use Rattle.pq_schema.specs.declared.table.Access.TheVariants.{Primary, Secondary
 use Rattle.pq_store.specs.Content.{key_cmp}
 use Rattle.pq_plan.specs.Nodes.{stop_scan}
 use Rattle.pq_nodes.specs.Paid.{node_cost}
+use Rattle.pq_nodes.specs.Rounds.{access_rounds}
 use Rattle.pq_scan.specs.Candidates.{Candidate, fetches}
 use Rattle.pq_scan.specs.Merging.{place_of}
 use Rattle.pq_scan.proofs.Merged.{each_take}
@@ -24,3 +25,7 @@ first_length k found first is =
 pub fetch_within : (access : Access) (rel n k m : ℕ) → m ≤ k → (n + fetches access m ≤ (node_cost n (stop_scan rel k access)).ops) × (n * k + fetches access m ≤ (node_cost n (stop_scan rel k access)).entries)
 fetch_within Primary rel n k m h = (omega arith, omega arith)
 fetch_within (Secondary index) rel n k m h = (omega arith, omega arith)
+
+pub fetch_rounds : (access : Access) → 1 + fetches access 1 ≤ access_rounds access
+fetch_rounds Primary = omega arith
+fetch_rounds (Secondary index) = omega arith

@@ -6,20 +6,30 @@ use Rattle.pq_base.specs.declared.value.Value.{Value}
 use Rattle.pq_base.proofs.Members.{each_in, at_in}
 use Rattle.pq_schema.specs.Rows.{Rows}
 use Rattle.pq_store.specs.Content.{Content}
-use Rattle.pq_calls.specs.Calls.{Uses}
+use Rattle.pq_store.specs.declared.store.Store.{Ghosts}
 use Rattle.pq_calls.specs.declared.calls.Calls.{Calls}
-use Rattle.pq_calls.proofs.Steps.{reads_then}
+use Rattle.pq_entries.proofs.Naming.{uses_then, uses_within}
 use Rattle.pq_scan.specs.declared.prepared.Scan.{Scan}
+use Rattle.pq_scan.specs.Request.{Spends}
 use Rattle.pq_scan.specs.Candidates.{Candidate, input_candidates, all_candidates, AddsCandidates, AreCandidates}
 
-module _ {S L : Type 0} (content : S → Option Content) (faults : S → ℕ) where
-  pub uses_then : (a b c : Calls S L) (o e p q o' e' : ℕ) → Uses content faults a b o e → Uses content faults b c p q → o + p ≤ o' → e + q ≤ e' → Uses content faults a c o' e'
-  uses_then a b c o e p q o' e' r s ops entries = record {
-    same_store = s.same_store ∙ r.same_store;
-    same_allowance = s.same_allowance ∙ r.same_allowance;
-    same_meter = s.same_meter ∙ r.same_meter;
-    reads = reads_then _ _ _ _ _ _ _ _ _ r.reads s.reads ops entries;
-  }
+-- a call that spends, and then another
+pub spends_then : {S L : Type 0} (s : Ghosts S L) (a b c : Calls S L) (o e p q o' e' m n r : ℕ) → Spends s a b o e m → Spends s b c p q n → o + p ≤ o' → e + q ≤ e' → m + n ≤ r → Spends s a c o' e' r
+spends_then s a b c o e p q o' e' m n r first then ops entries few =
+    let f = first.rounds in
+    let t = then.rounds in
+    record {
+      uses = uses_then s.content s.faults a b c o e p q o' e' first.uses then.uses ops entries;
+      rounds = omega (arith, f, t, few);
+    }
+
+pub spends_within : {S L : Type 0} (s : Ghosts S L) (a b : Calls S L) (o e o' e' m r : ℕ) → Spends s a b o e m → o ≤ o' → e ≤ e' → m ≤ r → Spends s a b o' e' r
+spends_within s a b o e o' e' m r first ops entries few =
+    let f = first.rounds in
+    record {
+      uses = uses_within s.content s.faults a b o e o' e' first.uses ops entries;
+      rounds = omega (arith, f, few);
+    }
 
 -- ---- what is found so far
 

@@ -5,4 +5,5 @@ pub mod Forms
 pub mod Inputs
 pub mod Merging
 pub mod Prepared
+pub mod Request
 pub mod Scanned

@@ -1,5 +1,5 @@
 -- What a scan finds in any content.
-use Rattle.std.specs.Prelude.{◌≡◌, ℕ, ◌+◌, List, [], ◌∷◌, ◌++◌, map, take, Option, None, Some}
+use Rattle.std.specs.Prelude.{◌≡◌, ℕ, ◌+◌, List, [], ◌∷◌, ◌++◌, map, take, Option, None, Some, option_copied}
 use Rattle.std.specs.List.{AllByRecursion}
 use Rattle.pq_base.specs.Sorting.{sort_by}
 use Rattle.pq_base.specs.declared.value.Value.{Value}
@@ -11,6 +11,7 @@ use Rattle.pq_store.specs.Content.{Content, key_cmp}
 use Rattle.pq_store.specs.declared.store.Ends.{Ends}
 use Rattle.pq_entries.specs.Entries.{AreNamedRows}
 use Rattle.pq_scan.specs.declared.prepared.Scan.{Scan}
+use Rattle.pq_scan.specs.declared.request.Request.{Request}
 use Rattle.pq_scan.specs.Asked.{range_asked, constants_asked}
 use Rattle.pq_scan.specs.Candidates.{Candidate, scanned_table, AreHeldWithin, IsHeld, candidate_at, kept_in, place_in, rows_behind}
 use Rattle.pq_scan.specs.Merging.{place_of}
@@ -65,3 +66,10 @@ pub record AreFirstScanned (tables : List Table) (query : Query) (params : List 
   pub subject : subject_of scan ≡
       record { tables = tables; query = query; params = params; rel = rel; access = access }
   pub scanned : AreScanned scan after k inputs found content
+
+-- the same for what is asked
+abbrev pub AreScannedFor : Request → ℕ → Access → ℕ → List (List (List Value)) → List (List (List Value)) → Content
+    → Type 0
+AreScannedFor request rel access k inputs found content =
+    AreFirstScanned request.catalog.now.tables request.query.now request.params.now rel access
+    (option_copied request.after) k inputs found content

@@ -1,15 +1,14 @@
 //! The rows of candidates, behind their inputs.
-ghost use Rattle.std.specs.Prelude.{◌≡◌, ◌<◌, ◌++◌, ◌∷◌, ◌≤◌, ◌+◌, [], map, length, IfOk, IfErr, IfSome};
+ghost use Rattle.std.specs.Prelude.{◌≡◌, ◌<◌, ◌++◌, ◌∷◌, [], map, length, IfOk, IfErr, IfSome};
 ghost use Rattle.std.specs.List.{AllByRecursion};
 ghost use Rattle.pq_base.specs.Values.{AllFit};
 ghost use Rattle.pq_schema.specs.Rows.{types_of};
-ghost use Rattle.pq_store.specs.Breaks.{IsAnswered};
-ghost use Rattle.pq_calls.specs.Calls.{Uses, Fails};
-ghost use Rattle.pq_calls.specs.World.{Affords, where_told};
+ghost use Rattle.pq_calls.specs.World.{Affords};
 ghost use Rattle.pq_nodes.specs.Combos.{FitsTables};
-ghost use Rattle.pq_nodes.specs.Operators.{AreInputs, ShowsRead};
+ghost use Rattle.pq_nodes.specs.Operators.{AreInputs};
 ghost use Rattle.pq_scan.specs.Candidates.{scanned_table, kept_in, place_in, IsHeld, IsCandidate, AreRowsOf, AreCombosOf, rows_behind, fetches};
 ghost use Rattle.pq_scan.specs.Prepared.{IsScannable};
+ghost use Rattle.pq_scan.specs.Request.{Spends, StopsRead};
 ghost use Rattle.pq_scan.specs.Scanned.{AreRowsKept, AreFetched};
 
 use crate::candidates::{Candidate, Found};
@@ -60,12 +59,9 @@ fn rows_of<S: Store<L>, L: Ledger>(
     requires held { AllByRecursion (IsHeld scan.now (S.content calls.old.store.now)) held }
     requires share { Affords calls.old.allowance.now (fetches scan.now.access (length held))
         (fetches scan.now.access (length held)) }
-    ensures uses { Uses S.content S.faults calls.old calls.new (fetches scan.now.access (length held))
-        (fetches scan.now.access (length held)) }
-    ensures cause { IfErr result (Fails (where_told
-        (ShowsRead scan.now.catalog.now.tables)) S.content S.faults calls.old calls.new) }
-    ensures rounds { S.rounds calls.new.store.now ≤ S.rounds calls.old.store.now + fetches scan.now.access 1 }
-    ensures answered { IfErr result (IsAnswered S.answers) }
+    ensures spends { Spends S.Store calls.old calls.new (fetches scan.now.access (length held))
+        (fetches scan.now.access (length held)) (fetches scan.now.access 1) }
+    ensures stops { IfErr result (StopsRead S.Store scan.now.catalog.now.tables calls.old calls.new) }
     ensures long { IfOk result (λ rows. length rows ≡ length held) }
     ensures fit { IfOk result (AllByRecursion (AllFit (types_of (scanned_table scan.now)))) }
     ensures codes { IfOk result (λ rows. IfSome (S.content calls.old.store.now)
@@ -129,12 +125,9 @@ pub(crate) fn combos_of<S: Store<L>, L: Ledger>(
         (length inputs.now)) candidates }
     requires share { Affords calls.old.allowance.now (fetches scan.now.access (length candidates))
         (fetches scan.now.access (length candidates)) }
-    ensures uses { Uses S.content S.faults calls.old calls.new (fetches scan.now.access
-        (length candidates)) (fetches scan.now.access (length candidates)) }
-    ensures cause { IfErr result (Fails (where_told
-        (ShowsRead scan.now.catalog.now.tables)) S.content S.faults calls.old calls.new) }
-    ensures rounds { S.rounds calls.new.store.now ≤ S.rounds calls.old.store.now + fetches scan.now.access 1 }
-    ensures answered { IfErr result (IsAnswered S.answers) }
+    ensures spends { Spends S.Store calls.old calls.new (fetches scan.now.access (length candidates))
+        (fetches scan.now.access (length candidates)) (fetches scan.now.access 1) }
+    ensures stops { IfErr result (StopsRead S.Store scan.now.catalog.now.tables calls.old calls.new) }
     ensures size { IfOk result (λ found. length found ≡ length candidates) }
     ensures fit { IfOk result (AllByRecursion
         (FitsTables scan.now.catalog.now.tables scan.now.query.now scan.now.rel)) }

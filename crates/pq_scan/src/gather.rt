@@ -1,16 +1,15 @@
 //! The candidates of all inputs, and the first of them by position.
-ghost use Rattle.std.specs.Prelude.{◌≡◌, ◌≤◌, ◌*◌, ◌-◌, ◌+◌, length, take, option_copied, IfOk, IfErr, IfSome};
+ghost use Rattle.std.specs.Prelude.{◌≡◌, ◌≤◌, ◌*◌, length, take, option_copied, IfOk, IfErr, IfSome};
 ghost use Rattle.std.specs.List.{AllByRecursion};
 ghost use Rattle.pq_base.specs.Sorting.{sort_by};
 ghost use Rattle.pq_store.specs.Content.{key_cmp};
-ghost use Rattle.pq_store.specs.Breaks.{IsAnswered};
-ghost use Rattle.pq_calls.specs.Calls.{Uses, Fails};
-ghost use Rattle.pq_calls.specs.World.{Affords, where_told};
+ghost use Rattle.pq_calls.specs.World.{Affords};
 ghost use Rattle.pq_nodes.specs.Combos.{FitsTables};
-ghost use Rattle.pq_nodes.specs.Operators.{AreInputs, IsCursor, ShowsRead};
+ghost use Rattle.pq_nodes.specs.Operators.{AreInputs, IsCursor};
 ghost use Rattle.pq_scan.specs.Candidates.{IsCandidate, AreCandidates};
 ghost use Rattle.pq_scan.specs.Merging.{place_of};
 ghost use Rattle.pq_scan.specs.Prepared.{IsScannable};
+ghost use Rattle.pq_scan.specs.Request.{Spends, StopsRead};
 ghost use Rattle.pq_scan.specs.Scanned.{AreGathered};
 
 use crate::asks::asks_of;
@@ -40,11 +39,8 @@ pub(crate) fn gather<S: Store<L>, L: Ledger>(
     requires cursor { IsCursor scan.now.catalog.now.tables scan.now.query.now (option_copied after) }
     requires limit { 1 ≤ limit }
     requires share { Affords calls.old.allowance.now (length inputs.now) (length inputs.now * limit) }
-    ensures uses { Uses S.content S.faults calls.old calls.new (length inputs.now) (length inputs.now * limit) }
-    ensures cause { IfErr result (Fails (where_told
-        (ShowsRead scan.now.catalog.now.tables)) S.content S.faults calls.old calls.new) }
-    ensures rounds { S.rounds calls.new.store.now ≤ S.rounds calls.old.store.now + 1 }
-    ensures answered { IfErr result (IsAnswered S.answers) }
+    ensures spends { Spends S.Store calls.old calls.new (length inputs.now) (length inputs.now * limit) 1 }
+    ensures stops { IfErr result (StopsRead S.Store scan.now.catalog.now.tables calls.old calls.new) }
     ensures kept { IfOk result (AllByRecursion (IsCandidate scan.now (S.content calls.old.store.now)
         (length inputs.now))) }
     // Over any content that is told, no pair of a range is passed over.

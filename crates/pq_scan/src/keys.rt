@@ -227,32 +227,38 @@ fn with_key(end: End, found: Option<Bytes>, key: Bytes) -> Bytes
     }
 }
 
+/// An input, and the values that equalities tie behind it.
+#[derive(Clone, Copy)]
+struct TiedInput<'a> {
+    combo: &'a Combo,
+    ties: &'a Row,
+}
+
 /// The key of the bound that a predicate makes at an end, where it is one of the relation's on a column
 /// that is not tied, with an operand.
 fn pred_key(
     alloc: Global,
     scan: &Scan<'_>,
-    combo: &Combo,
-    ties: &Row,
+    input: &TiedInput<'_>,
     end: End,
     dir: Dir,
     pred: &Pred,
 ) -> Result<Option<Bytes>, NoMem>
     requires sound { IsPrepared scan.now }
     requires column { pred.now.left.col < 32 }
-    ensures { IfOk result (λ key. option_to_list key ≡ map (λ b. bound_key scan.now.dirs (under ties.now b))
+    ensures { IfOk result (λ key. option_to_list key ≡ map (λ b. bound_key scan.now.dirs (under input.now.ties.now b))
         (cond (belongs_to pred.now == scan.now.rel)
-        (pred_bounds (asked_over scan.now []) scan.now.rel end dir combo.now pred.now) [])) }
+        (pred_bounds (asked_over scan.now []) scan.now.rel end dir input.now.combo.now pred.now) [])) }
 {
     if belongs_to(pred) != scan.rel || is_tied(scan, pred) {
         return Ok(None);
     }
-    let Some(operand) = side(scan.params, combo, &pred.right) else {
+    let Some(operand) = side(scan.params, input.combo, &pred.right) else {
         return Ok(None);
     };
     match edge_of(end, dir, pred.op) {
         None => Ok(None),
-        Some(edge) => Ok(Some(edge_key(alloc, scan.dirs.items(), ties, operand, edge)?)),
+        Some(edge) => Ok(Some(edge_key(alloc, scan.dirs.items(), input.ties, operand, edge)?)),
     }
 }
 
@@ -260,8 +266,7 @@ fn pred_key(
 fn farthest_from(
     alloc: Global,
     scan: &Scan<'_>,
-    combo: &Combo,
-    ties: &Row,
+    input: &TiedInput<'_>,
     end: End,
     dir: Dir,
     preds: &[Pred],
@@ -269,14 +274,14 @@ fn farthest_from(
 ) -> Result<Bytes, NoMem>
     requires sound { IsPrepared scan.now }
     requires columns { AllByRecursion (λ pred. pred.left.col < 32) preds.now }
-    ensures { IfOk result (λ key. key ≡ farthest end scan.now.dirs base (map (under ties.now)
-        (own_bounds (asked_over scan.now []) scan.now.rel end dir combo.now preds.now))) }
+    ensures { IfOk result (λ key. key ≡ farthest end scan.now.dirs base (map (under input.now.ties.now)
+        (own_bounds (asked_over scan.now []) scan.now.rel end dir input.now.combo.now preds.now))) }
 {
     let Some((pred, rest)) = preds.split_first() else {
         return Ok(base);
     };
-    let key = farthest_from(alloc, scan, combo, ties, end, dir, rest, base)?;
-    let found = pred_key(alloc, scan, combo, ties, end, dir, pred)?;
+    let key = farthest_from(alloc, scan, input, end, dir, rest, base)?;
+    let found = pred_key(alloc, scan, input, end, dir, pred)?;
     Ok(with_key(end, found, key))
 }
 
@@ -309,23 +314,22 @@ fn rest_direction(scan: &Scan<'_>) -> Dir
 fn with_start(
     alloc: Global,
     scan: &Scan<'_>,
-    combo: &Combo,
-    ties: &Row,
+    input: &TiedInput<'_>,
     after: Option<&Row>,
     key: Bytes,
 ) -> Result<Bytes, NoMem>
     requires { IsPrepared scan.now }
-    ensures { IfOk result (λ low. low ≡ started_key scan.now.dirs ties.now scan.now.position_dirs
-        (map (constant (asked_over scan.now []) scan.now.rel combo.now) scan.now.items) (option_copied after.entry)
+    ensures { IfOk result (λ low. low ≡ started_key scan.now.dirs input.now.ties.now scan.now.position_dirs
+        (map (constant (asked_over scan.now []) scan.now.rel input.now.combo.now) scan.now.items) (option_copied after.entry)
         key) }
 {
     match after {
         None => Ok(key),
         Some(at) => {
-            let constants = constants(alloc, scan, combo)?;
+            let constants = constants(alloc, scan, input.combo)?;
             let dirs = scan.position_dirs.items();
             let start = start_at(alloc, dirs, constants.items(), at)?;
-            let one = start_key(alloc, scan.dirs.items(), ties, &start)?;
+            let one = start_key(alloc, scan.dirs.items(), input.ties, &start)?;
             Ok(higher(one, key))
         }
     }
@@ -335,18 +339,17 @@ fn with_start(
 fn end_code(
     alloc: Global,
     scan: &Scan<'_>,
-    combo: &Combo,
-    ties: &Row,
+    input: &TiedInput<'_>,
     end: End,
     edge: Edge,
 ) -> Result<Bytes, NoMem>
     requires { IsPrepared scan.now }
-    ensures { IfOk result (λ key. key ≡ end_code scan.now combo.now ties.now end edge) }
+    ensures { IfOk result (λ key. key ≡ end_code scan.now input.now.combo.now input.now.ties.now end edge) }
 {
     let dir = rest_direction(scan);
-    let base = tied_key(alloc, scan.dirs.items(), ties, edge)?;
+    let base = tied_key(alloc, scan.dirs.items(), input.ties, edge)?;
     let preds = scan.query.preds.items();
-    farthest_from(alloc, scan, combo, ties, end, dir, preds, base)
+    farthest_from(alloc, scan, input, end, dir, preds, base)
 }
 
 /// A code behind what the keys of the scan's sequence begin with.
@@ -366,20 +369,19 @@ fn with_front(alloc: Global, scan: &Scan<'_>, code: &Bytes) -> Result<Bytes, NoM
 fn ends_of(
     alloc: Global,
     scan: &Scan<'_>,
-    combo: &Combo,
-    ties: &Row,
+    input: &TiedInput<'_>,
     after: Option<&Row>,
 ) -> Result<Ends, NoMem>
     requires { IsPrepared scan.now }
     ensures low { IfOk result (λ ends. ends.low ≡ key_front scan.now.number scan.now.access ++ low_code scan.now
-        combo.now (input_with scan.now combo.now ties.now) (option_copied after.entry)) }
+        input.now.combo.now (input_with scan.now input.now.combo.now input.now.ties.now) (option_copied after.entry)) }
     ensures high { IfOk result (λ ends. ends.high ≡ key_front scan.now.number scan.now.access ++ high_code scan.now
-        combo.now (input_with scan.now combo.now ties.now)) }
+        input.now.combo.now (input_with scan.now input.now.combo.now input.now.ties.now)) }
 {
-    let low = end_code(alloc, scan, combo, ties, End::Low, Edge::At)?;
-    let low = with_start(alloc, scan, combo, ties, after, low)?;
+    let low = end_code(alloc, scan, input, End::Low, Edge::At)?;
+    let low = with_start(alloc, scan, input, after, low)?;
     let low = with_front(alloc, scan, &low)?;
-    let high = end_code(alloc, scan, combo, ties, End::High, Edge::Past)?;
+    let high = end_code(alloc, scan, input, End::High, Edge::Past)?;
     let high = with_front(alloc, scan, &high)?;
     Ok(Ends { low, high })
 }
@@ -396,5 +398,6 @@ pub(crate) fn range_of(
 {
     let front = scan.front.items();
     let ties = tied_cells(alloc, scan.query, scan.params, scan.rel, combo, front)?;
-    ends_of(alloc, scan, combo, &ties, after)
+    let input = TiedInput { combo, ties: &ties };
+    ends_of(alloc, scan, &input, after)
 }

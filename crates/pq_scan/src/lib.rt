@@ -18,8 +18,10 @@ mod passing;
 mod places;
 mod prepared;
 mod reads;
+mod request;
 mod scanning;
 mod starts;
 
 pub use merge::{Heads, Placed};
+pub use request::Request;
 pub use scanning::scan_inputs;

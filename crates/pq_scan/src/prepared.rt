@@ -5,6 +5,7 @@ ghost use Rattle.pq_schema.specs.Sequences.{columns_of, IsAccess};
 ghost use Rattle.pq_schema.specs.Sound.{IsQuery};
 ghost use Rattle.pq_scan.specs.Prepared.{IsPrepared, subject_of, item_directions};
 
+use crate::request::Request;
 use pq_base::{ColSet, ColType, Dir, List, NoMem, Row};
 use pq_entries::types_at;
 use pq_predicates::{fixed, position_columns, table_number, table_of};
@@ -61,26 +62,30 @@ impl<'a> Scan<'a> {
     /// The scan of a relation by an access.
     pub(crate) fn prepare(
         alloc: Global,
-        catalog: &'a Catalog,
-        query: &'a Query,
-        params: &'a Row,
+        request: &Request<'a>,
         rel: u8,
         access: Access,
     ) -> Result<Scan<'a>, NoMem>
-        requires query { IsQuery catalog.now.tables query.now }
+        requires query { IsQuery request.now.catalog.now.tables request.now.query.now }
         requires from_one { 1 ≤ rel }
-        requires there { rel ≤ length query.now.relations }
-        requires access { IsAccess (table_of catalog.now.tables query.now rel) access }
+        requires there { rel ≤ length request.now.query.now.relations }
+        requires access { IsAccess (table_of request.now.catalog.now.tables request.now.query.now rel) access }
         ensures sound { IfOk result IsPrepared }
         ensures subject { IfOk result (λ scan. subject_of scan ≡
             record {
-              tables = catalog.now.tables;
-              query = query.now;
-              params = params.now;
+              tables = request.now.catalog.now.tables;
+              query = request.now.query.now;
+              params = request.now.params.now;
               rel = rel;
               access = access;
             }) }
     {
+        let Request {
+            catalog,
+            query,
+            params,
+            ..
+        } = *request;
         let table = table_of(catalog, query, rel);
         let fixed = fixed(query, rel);
         let sequence = sequence(alloc, table, access)?;

@@ -10,7 +10,7 @@ ghost use Rattle.pq_scan.specs.Scanned.{AreFirstScanned};
 use pq_base::{List, Row};
 use pq_calls::Calls;
 use pq_plan::Combo;
-use pq_scan::scan_inputs;
+use pq_scan::{Request, scan_inputs};
 use pq_schema::{Access, Catalog, Query};
 use pq_store::{Allowance, Broke, Meter, Store};
 use std::alloc::Global;
@@ -55,21 +55,17 @@ pub fn sorted_join<S: Store<L>, L: Ledger>(
     ensures answered { IfErr result (IsAnswered S.answers) }
     ensures undamaged { IfErr result (IsSoundOverRows (S.content store.old) catalog.now.tables) }
 {
+    let request = Request {
+        catalog,
+        query,
+        params,
+        after,
+    };
     let mut calls = Calls {
         store,
         allowance,
         meter,
     };
-    scan_inputs(
-        alloc,
-        catalog,
-        query,
-        params,
-        rel,
-        access,
-        inputs.items(),
-        after,
-        k,
-        &mut calls,
-    )
+    let inputs = inputs.items();
+    scan_inputs(alloc, &request, rel, access, inputs, k, &mut calls)
 }

@@ -23,26 +23,26 @@ returns-clause-few g c =
 pub returns-clause-fit : goal.returns-clause-fit
 returns-clause-fit g c =
     let range = c.args.range.now in
-    let tables = c.args.catalog.now.tables in
-    subst (AllByRecursion (FitsTables tables c.args.query.now range.rel)) (sym c.in_ok-found.ensures)
-    (followed_fit c.args.inputs.now tables c.args.query.now range.rel c.requires.range.ready.is.relation.from_one c.requires.inputs c.items.result.now c.in_ok-rows.rows
+    let tables = c.args.request.now.catalog.now.tables in
+    subst (AllByRecursion (FitsTables tables c.args.request.now.query.now range.rel)) (sym c.in_ok-found.ensures)
+    (followed_fit c.args.inputs.now tables c.args.request.now.query.now range.rel c.requires.range.ready.is.relation.from_one c.requires.inputs c.items.result.now c.in_ok-rows.rows
     (subst (AllByRecursion (λ place. place < length c.args.inputs.now)) (sym c.items.ensures) c.in_ok-entries.ensures.entries.within)
-    (subst (λ (own : Table). AllByRecursion (AllFit (types_of own)) c.in_ok-rows.rows) (sym (range_table tables c.args.query.now range c.requires.range)) c.in_ok-rows.ensures.fit))
+    (subst (λ (own : Table). AllByRecursion (AllFit (types_of own)) c.in_ok-rows.rows) (sym (range_table tables c.args.request.now.query.now range c.requires.range)) c.in_ok-rows.ensures.fit))
 
 pub returns-clause-answer : goal.returns-clause-answer
 returns-clause-answer g c =
     let range = c.args.range.now in
-    let tables = c.args.catalog.now.tables in
+    let tables = c.args.request.now.catalog.now.tables in
     let told = g.S.Store.content c.args.calls.now.store.now in
-    subst (AddsRanged told tables c.args.query.now c.args.params.now range.rel range.limit c.args.inputs.now []) (sym c.in_ok-found.ensures)
-    (named_ranged told (g.S.Store.content c.range_entries.new.calls.store.now) tables c.args.query.now c.args.params.now range c.args.inputs.now c.args.index c.in_ok-entries.ensures.uses.reads.same c.requires.secondary
+    subst (AddsRanged told tables c.args.request.now.query.now c.args.request.now.params.now range.rel range.limit c.args.inputs.now []) (sym c.in_ok-found.ensures)
+    (named_ranged told (g.S.Store.content c.range_entries.new.calls.store.now) tables c.args.request.now.query.now c.args.request.now.params.now range c.args.inputs.now c.args.index c.in_ok-entries.ensures.spends.uses.reads.same c.requires.secondary
     c.in_ok-entries.entries c.items-values.result.now c.in_ok-rows.rows c.items.result.now c.in_ok-entries.ensures.entries c.items-values.ensures c.items.ensures c.in_ok-rows.ensures.answer)
 
 pub returns-clause-codes : goal.returns-clause-codes
 returns-clause-codes g c =
     let range = c.args.range.now in
-    let tables = c.args.catalog.now.tables in
+    let tables = c.args.request.now.catalog.now.tables in
     let told = g.S.Store.content c.args.calls.now.store.now in
-    subst (λ (found : List (List (List Value))). IfSome told (AreFollowed tables c.args.query.now c.args.params.now range c.args.inputs.now found)) (sym c.in_ok-found.ensures)
-    (named_followed told (g.S.Store.content c.range_entries.new.calls.store.now) tables c.args.query.now c.args.params.now range c.args.inputs.now c.args.index c.in_ok-entries.ensures.uses.reads.same c.requires.secondary
+    subst (λ (found : List (List (List Value))). IfSome told (AreFollowed tables c.args.request.now.query.now c.args.request.now.params.now range c.args.inputs.now found)) (sym c.in_ok-found.ensures)
+    (named_followed told (g.S.Store.content c.range_entries.new.calls.store.now) tables c.args.request.now.query.now c.args.request.now.params.now range c.args.inputs.now c.args.index c.in_ok-entries.ensures.spends.uses.reads.same c.requires.secondary
     c.in_ok-entries.entries c.items-values.result.now c.in_ok-rows.rows c.items.result.now c.in_ok-entries.ensures.entries.codes c.items-values.ensures c.items.ensures c.in_ok-rows.ensures.codes)

@@ -10,7 +10,7 @@ use Rattle.pq_index_scan.proofs.Ranging.{start_short}
 use Rattle.pq_index_scan.proofs.limit.range_start.Goals as goal
 
 pub table_of-table-requires-clause-query : goal.table_of-table-requires-clause-query
-table_of-table-requires-clause-query c = valid_query c.args.catalog.now c.args.query.now c.known.ensures c.requires.asked.resolved
+table_of-table-requires-clause-query c = valid_query c.args.request.now.catalog.now c.args.request.now.query.now c.known.ensures c.requires.asked.resolved
 
 pub sequence_key-requires-clause-short : goal.sequence_key-requires-clause-short
 sequence_key-requires-clause-short c =
@@ -18,7 +18,7 @@ sequence_key-requires-clause-short c =
     let values = c.requires.values in
     let long = ap (λ (l : List Value). length l) values in
     let sequence = ap (λ (table : Table). length (sequence_of table range.access)) c.table_of-table.ensures.table in
-    let short = start_short c.args.catalog.now.tables c.args.query.now c.args.params.now range c.args.input.now c.requires.range in
+    let short = start_short c.args.request.now.catalog.now.tables c.args.request.now.query.now c.args.request.now.params.now range c.args.input.now c.requires.range in
     omega (arith, long, sequence, short)
 
 pub returns : goal.returns
@@ -27,5 +27,5 @@ returns c =
     let values = c.requires.values in
     let same =
     ap (λ (table : Table). sequence_key range.number table range.access c.args.values.now) c.table_of-table.ensures.table
-    ∙ ap (λ (vs : List Value). sequence_key range.number (table_of c.args.catalog.now.tables c.args.query.now range.rel) range.access vs) values in
+    ∙ ap (λ (vs : List Value). sequence_key range.number (table_of c.args.request.now.catalog.now.tables c.args.request.now.query.now range.rel) range.access vs) values in
     subst (λ (k : List ℕ). IfOk c.sequence_key.result (λ (key : List ℕ). key ≡ k)) same c.sequence_key.ensures

@@ -25,36 +25,29 @@ add_found-requires-clause-front g c =
     (pairs_here scan after inputs place c.loop-place-test.true _ _ _ _ _ _ c.items.ensures c.in_ok-asks.ensures.ranges c.items-in-loop-place-2.ensures c.index-items-place-in-loop-place.is c.items-in-loop-place-3.ensures
     (IsPartAsked c.args.limit) c.in_ok-parts.ensures.parts)
 
-pub returns-in_err-add_found-clause-cause : goal.returns-in_err-add_found-clause-cause
-returns-in_err-add_found-clause-cause g c =
+pub returns-in_err-add_found-clause-stops : goal.returns-in_err-add_found-clause-stops
+returns-in_err-add_found-clause-stops g c =
     let scan = c.args.scan.now in
     let after = option_copied c.args.after in
     let inputs = c.args.inputs.now in
     let place = c.loop-place.place in
     let told = g.S.Store.content c.args.calls.now.store.now in
-    let p = err_from_is_err_and c.from_residual-in_err-add_found.result c.from_residual-in_err-add_found.ensures.1 in
-    rw (p.1, p.2)
-    (found_stops scan after (get_or inputs place []) c.args.limit c.items-in-loop-place-3.result.now
-    (pairs_here scan after inputs place c.loop-place-test.true _ _ _ _ _ _ c.items.ensures c.in_ok-asks.ensures.ranges c.items-in-loop-place-2.ensures c.index-items-place-in-loop-place.is c.items-in-loop-place-3.ensures
-    (IsPartAsked c.args.limit) c.in_ok-parts.ensures.parts)
-    (seen_world g.S.Store.content g.S.Store.faults c.args.calls.now) (seen_world g.S.Store.content g.S.Store.faults c.ranges-2.new.self)
-    (pairs_here scan after inputs place c.loop-place-test.true _ _ _ _ _ _ c.items.ensures c.in_ok-asks.ensures.ranges c.items-in-loop-place-2.ensures c.index-items-place-in-loop-place.is c.items-in-loop-place-3.ensures
-    (ArePairsOf told c.args.limit) c.in_ok-parts.ensures.answer)
-    c.in_err-add_found.field-0.0 c.in_err-add_found.ensures.cause c.in_err-add_found.ensures.tells)
-
-pub returns-in_err-add_found-clause-answered : goal.returns-in_err-add_found-clause-answered
-returns-in_err-add_found-clause-answered g c =
-    let scan = c.args.scan.now in
-    let after = option_copied c.args.after in
-    let inputs = c.args.inputs.now in
-    let place = c.loop-place.place in
     let pairs = c.items-in-loop-place-3.result.now in
     let p = err_from_is_err_and c.from_residual-in_err-add_found.result c.from_residual-in_err-add_found.ensures.1 in
     rw (p.1, p.2)
-    (found_answered g.S.Store.answers pairs
-    (each_here scan after inputs place c.loop-place-test.true _ _ _ _ _ pairs c.items.ensures c.in_ok-asks.ensures.ranges c.items-in-loop-place-2.ensures c.index-items-place-in-loop-place.is c.items-in-loop-place-3.ensures
-    (AreAnswers g.S.Store.answers) c.in_ok-parts.ensures.long c.in_ok-parts.ensures.answers)
-    c.in_err-add_found.field-0.0 c.in_err-add_found.ensures.tells)
+    (record {
+      cause = found_stops scan after (get_or inputs place []) c.args.limit pairs
+          (pairs_here scan after inputs place c.loop-place-test.true _ _ _ _ _ _ c.items.ensures c.in_ok-asks.ensures.ranges c.items-in-loop-place-2.ensures c.index-items-place-in-loop-place.is c.items-in-loop-place-3.ensures
+          (IsPartAsked c.args.limit) c.in_ok-parts.ensures.parts)
+          (seen_world g.S.Store.content g.S.Store.faults c.args.calls.now) (seen_world g.S.Store.content g.S.Store.faults c.ranges-2.new.self)
+          (pairs_here scan after inputs place c.loop-place-test.true _ _ _ _ _ _ c.items.ensures c.in_ok-asks.ensures.ranges c.items-in-loop-place-2.ensures c.index-items-place-in-loop-place.is c.items-in-loop-place-3.ensures
+          (ArePairsOf told c.args.limit) c.in_ok-parts.ensures.answer)
+          c.in_err-add_found.field-0.0 c.in_err-add_found.ensures.cause c.in_err-add_found.ensures.tells;
+      answered = found_answered g.S.Store.answers pairs
+          (each_here scan after inputs place c.loop-place-test.true _ _ _ _ _ pairs c.items.ensures c.in_ok-asks.ensures.ranges c.items-in-loop-place-2.ensures c.index-items-place-in-loop-place.is c.items-in-loop-place-3.ensures
+          (AreAnswers g.S.Store.answers) c.in_ok-parts.ensures.long c.in_ok-parts.ensures.answers)
+          c.in_err-add_found.field-0.0 c.in_err-add_found.ensures.tells;
+    })
 
 pub loop-place-preserved : goal.loop-place-preserved
 loop-place-preserved g c =

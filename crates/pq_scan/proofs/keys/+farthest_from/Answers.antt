@@ -13,5 +13,5 @@ returns t c =
     let q = asked_over scan [] in
     c.with_key.ensures
     ∙ ap (with_key c.args.end c.in_ok-found.found) c.in_ok-key.ensures
-    ∙ one_more c.args.end scan.dirs c.args.ties.now c.args.base (pred_bounds q scan.rel c.args.end c.args.dir c.args.combo.now) (λ pred. belongs_to pred == scan.rel) c.in-Some.pred.now c.in-Some.rest.now c.in_ok-found.found c.in_ok-found.ensures
-    ∙ ap (λ (preds : List Pred). farthest c.args.end scan.dirs c.args.base (map (under c.args.ties.now) (own_bounds q scan.rel c.args.end c.args.dir c.args.combo.now preds))) (sym c.in-Some.ensures.cases.0)
+    ∙ one_more c.args.end scan.dirs c.args.input.now.ties.now c.args.base (pred_bounds q scan.rel c.args.end c.args.dir c.args.input.now.combo.now) (λ pred. belongs_to pred == scan.rel) c.in-Some.pred.now c.in-Some.rest.now c.in_ok-found.found c.in_ok-found.ensures
+    ∙ ap (λ (preds : List Pred). farthest c.args.end scan.dirs c.args.base (map (under c.args.input.now.ties.now) (own_bounds q scan.rel c.args.end c.args.dir c.args.input.now.combo.now preds))) (sym c.in-Some.ensures.cases.0)

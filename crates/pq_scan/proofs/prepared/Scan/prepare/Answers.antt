@@ -13,7 +13,7 @@ use Rattle.pq_scan.proofs.prepared.Scan.prepare.Goals as goal
 pub returns-clause-sound : goal.returns-clause-sound
 returns-clause-sound c =
     let refs = c.requires.query.refs in
-    let preds = c.args.query.now.preds in
+    let preds = c.args.request.now.query.now.preds in
     record {
       number_is = c.table_number.ensures;
       fixed_is = c.fixed-fixed.ensures;
@@ -24,5 +24,5 @@ returns-clause-sound c =
       items_is = c.in_ok-items.ensures;
       position_dirs_is = c.in_ok-position_dirs.ensures ∙ ap item_directions c.items-5.ensures;
       columns = each_by_in _ preds (λ pred here. all_member (λ (pred : Pred). pred.left.col < 32) preds refs.preds pred here);
-      item_columns = λ item here. item_small c.args.catalog.now.tables c.args.query.now c.requires.query item (subst (λ items. In item items) c.in_ok-items.ensures here);
+      item_columns = λ item here. item_small c.args.request.now.catalog.now.tables c.args.request.now.query.now c.requires.query item (subst (λ items. In item items) c.in_ok-items.ensures here);
     }
