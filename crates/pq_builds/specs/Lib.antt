@@ -3,3 +3,4 @@ pub mod Filling
 pub mod Stages
 pub mod Standing
 pub mod Targets
+pub mod Told

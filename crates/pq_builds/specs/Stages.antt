@@ -1,10 +1,8 @@
 -- What a build makes of any content that is told, at whichever call it stops, and what it uses.
-use Rattle.std.specs.Prelude.{◌≡◌, ◌⊎◌, ℕ, ◌+◌, ◌*◌, ◌/◌, ◌<◌, ◌≤◌, List, ◌∷◌, length, Option, Some, None, Result, OnOk, IfErr}
+use Rattle.std.specs.Prelude.{◌≡◌, ◌⊎◌, ℕ, ◌+◌, ◌*◌, ◌/◌, ◌<◌, ◌≤◌, List, ◌∷◌, length, Option, Some, None, Result, OnOk}
 use Rattle.std.specs.FinMap.{get, insert}
-use Rattle.pq_store.specs.Breaks.{IfDamaged, IsPresent, IsAnsweredBut}
-use Rattle.pq_store.specs.Content.{Content, HasBrokeCause}
-use Rattle.pq_store.specs.declared.store.Store.{Ghosts}
-use Rattle.pq_intent.specs.Changing.{StaysUntold}
+use Rattle.pq_store.specs.Breaks.{IfDamaged, IsPresent}
+use Rattle.pq_store.specs.Content.{Content}
 use Rattle.pq_store.specs.Counts.{Counts}
 use Rattle.pq_store.specs.declared.damage.Broke.{Broke}
 use Rattle.pq_store.specs.declared.damage.Damage.{Damage}
@@ -13,23 +11,7 @@ use Rattle.pq_builds.specs.declared.build.Built.TheVariants as built
 use Rattle.pq_builds.specs.declared.mark.TheConstants.{READY, BUILDING}
 use Rattle.pq_builds.specs.declared.target.NewQuery.{NewQuery}
 use Rattle.pq_builds.specs.declared.target.Target.{Target}
-use Rattle.pq_builds.specs.Filling.{Enters, EntersSome, target_shape, row_pairs_in, IsNoRowAmong, NamesKey}
-
--- ---- what every call promises of a store, told or not
-
-module _ {S L : Type 0} (s : Ghosts S L) where
-  -- a store that told nothing tells nothing still, and an error has its cause
-  pub record ChangesStore (before after : S) {A : Type 0} (result : Result A Broke) : Type 0 where
-    pub untold : StaysUntold (s.content before) (s.content after)
-    pub cause : HasBrokeCause (s.faults before) (s.faults after) result
-
-  -- and damage is what was answered, or has no value and names the key of the definition
-  pub record ChangesNaming (key : List ℕ) (before after : S) {A : Type 0} (result : Result A Broke) : Type 0 where
-    pub changes : ChangesStore before after result
-    pub names : IfErr result (NamesKey key)
-    pub answered : IfErr result (IsAnsweredBut s.answers key)
-
--- ---- values of a definition
+use Rattle.pq_builds.specs.Filling.{Enters, EntersSome, target_shape, row_pairs_in, IsNoRowAmong}
 
 -- the format of a definition, its mark and its text
 abbrev pub marked_value : NewQuery → ℕ → List ℕ

@@ -5,8 +5,9 @@ ghost use Rattle.pq_store.specs.Breaks.{IfDamaged, IsPresent, IsUndamaged};
 ghost use Rattle.pq_intent.specs.Spending.{TakesAtMost};
 ghost use Rattle.pq_builds.specs.Bounds.{build_bound, left_bound};
 ghost use Rattle.pq_builds.specs.Filling.{target_shape, row_pairs_in, IsNoRowAmong, fill_ops};
-ghost use Rattle.pq_builds.specs.Stages.{marked_value, IsMarked, IsReady, IsBuilt, StopsFilling, StopsBuilding, ShowsBuild, ShowsLeft, RanBuild, Takes, TakesBuild, TakesOrLess, ChangesNaming, IsFew, IsWithinBuild, build_ops, left_ops};
+ghost use Rattle.pq_builds.specs.Stages.{marked_value, IsMarked, IsReady, IsBuilt, StopsFilling, StopsBuilding, ShowsBuild, ShowsLeft, RanBuild, Takes, TakesBuild, TakesOrLess, IsFew, IsWithinBuild, build_ops, left_ops};
 ghost use Rattle.pq_builds.specs.Standing.{Origin, HoldsOrigin, HoldsFilling, IsMarkedOrReady, Makes, Leaves, rows_in};
+ghost use Rattle.pq_builds.specs.Told.{WithRows, Turns, Shows, LeavesNaming};
 
 use crate::count::count_rows;
 use crate::entries::put;
@@ -41,12 +42,11 @@ fn mark<S: Store<L>, L: Ledger>(
     store: &mut S,
     meter: &mut Meter<L>,
 ) -> Result<(), Broke>
-    ensures marked { OnOk result (IfSome (S.content store.old) (λ c. IsMarked query.now c (S.content store.new))) }
-    ensures stopped { OnErr result (IfSome (S.content store.old) (λ c.
-        (S.content store.new ≡ Some c) ⊎ IsMarked query.now c (S.content store.new))) }
-    ensures shown { IfErr result (λ broke. IfSome (S.content store.old) (λ c.
-        IfDamaged (IsPresent query.now.key c) broke)) }
-    ensures over { ChangesNaming S.Store query.now.key store.old store.new result }
+    ensures marked { OnOk result (Turns S.Store store.old store.new (IsMarked query.now)) }
+    ensures stopped { OnErr result (Turns S.Store store.old store.new
+        (λ c now. (now ≡ Some c) ⊎ IsMarked query.now c now)) }
+    ensures shown { IfErr result (Shows S.Store store.old (λ c. IfDamaged (IsPresent query.now.key c))) }
+    ensures leaves { LeavesNaming S.Store query.now.key store.old store.new result }
     ensures takes { OnOk result (Takes 1 0 meter.old meter.new) }
     ensures few { meter.new.ops ≤ meter.old.ops + 1 }
     ensures entries { meter.new.entries ≡ meter.old.entries }
@@ -76,14 +76,13 @@ fn finish<S: Store<L>, L: Ledger>(
     meter: &mut Meter<L>,
 ) -> Result<(), Broke>
     requires few { count ≤ 1000000 }
-    ensures ready { OnOk result (IfSome (S.content store.old) (λ c.
-        length (row_pairs_in target.now.table c) ≡ count → IsReady target.now query.now c (S.content store.new))) }
-    ensures stopped { OnErr result (IfSome (S.content store.old) (λ c.
-        length (row_pairs_in target.now.table c) ≡ count → StopsFilling target.now query.now c (S.content store.new))) }
-    ensures shown { IfErr result (λ broke. IfSome (S.content store.old) (λ c.
-        length (row_pairs_in target.now.table c) ≡ count
-        → IfDamaged (IsNoRowAmong (target_shape target.now) (row_pairs_in target.now.table c)) broke)) }
-    ensures over { ChangesNaming S.Store query.now.key store.old store.new result }
+    ensures ready { OnOk result (Turns S.Store store.old store.new
+        (WithRows target.now.table count (IsReady target.now query.now))) }
+    ensures stopped { OnErr result (Turns S.Store store.old store.new
+        (WithRows target.now.table count (StopsFilling target.now query.now))) }
+    ensures shown { IfErr result (Shows S.Store store.old (WithRows target.now.table count
+        (λ c. IfDamaged (IsNoRowAmong (target_shape target.now) (row_pairs_in target.now.table c))))) }
+    ensures leaves { LeavesNaming S.Store query.now.key store.old store.new result }
     ensures takes { TakesOrLess (fill_ops count + 1) count (count + 256) meter.old meter.new result }
     ensures told { OnErr result (IfSome (S.content store.old) (λ c.
         length (row_pairs_in target.now.table c) ≡ count → meter.new.entries ≤ meter.old.entries + count)) }
@@ -104,14 +103,13 @@ fn build_rows<S: Store<L>, L: Ledger>(
 ) -> Result<(), Broke>
     requires few { count ≤ 1000000 }
     requires key { is_of_rows query.now.key ≡ false }
-    ensures built { OnOk result (IfSome (S.content store.old) (λ c.
-        length (row_pairs_in target.now.table c) ≡ count → IsBuilt target.now query.now c (S.content store.new))) }
-    ensures stopped { OnErr result (IfSome (S.content store.old) (λ c.
-        length (row_pairs_in target.now.table c) ≡ count
-        → StopsBuilding target.now query.now c (S.content store.new))) }
-    ensures shown { IfErr result (λ broke. IfSome (S.content store.old) (λ c.
-        length (row_pairs_in target.now.table c) ≡ count → ShowsBuild target.now query.now c broke)) }
-    ensures over { ChangesNaming S.Store query.now.key store.old store.new result }
+    ensures built { OnOk result (Turns S.Store store.old store.new
+        (WithRows target.now.table count (IsBuilt target.now query.now))) }
+    ensures stopped { OnErr result (Turns S.Store store.old store.new
+        (WithRows target.now.table count (StopsBuilding target.now query.now))) }
+    ensures shown { IfErr result (Shows S.Store store.old
+        (WithRows target.now.table count (ShowsBuild target.now query.now))) }
+    ensures leaves { LeavesNaming S.Store query.now.key store.old store.new result }
     ensures takes { TakesOrLess (fill_ops count + 2) count (count + 256) meter.old meter.new result }
     ensures told { OnErr result (IfSome (S.content store.old) (λ c.
         length (row_pairs_in target.now.table c) ≡ count → meter.new.entries ≤ meter.old.entries + count)) }
@@ -129,13 +127,10 @@ fn run_build<S: Store<L>, L: Ledger>(
     meter: &mut Meter<L>,
 ) -> Result<Built, Broke>
     requires key { is_of_rows query.now.key ≡ false }
-    ensures ran { IfOk result (λ built. IfSome (S.content store.old) (λ c.
-        RanBuild target.now query.now built c (S.content store.new))) }
-    ensures ended { OnErr result (IfSome (S.content store.old) (λ c.
-        StopsBuilding target.now query.now c (S.content store.new))) }
-    ensures shown { IfErr result (λ broke. IfSome (S.content store.old) (λ c.
-        ShowsBuild target.now query.now c broke)) }
-    ensures over { ChangesNaming S.Store query.now.key store.old store.new result }
+    ensures ran { IfOk result (λ built. Turns S.Store store.old store.new (RanBuild target.now query.now built)) }
+    ensures ended { OnErr result (Turns S.Store store.old store.new (StopsBuilding target.now query.now)) }
+    ensures shown { IfErr result (Shows S.Store store.old (ShowsBuild target.now query.now)) }
+    ensures leaves { LeavesNaming S.Store query.now.key store.old store.new result }
     ensures unchanged { IfOk result (λ built. built ≡ Built.TooMany → S.content store.new ≡ S.content store.old) }
     ensures few { IfOk result IsFew }
     ensures takes { IfOk result (λ built. TakesBuild built meter.old meter.new) }
@@ -160,13 +155,12 @@ fn run_completion<S: Store<L>, L: Ledger>(
     store: &mut S,
     meter: &mut Meter<L>,
 ) -> Result<u32, Broke>
-    ensures ready { IfOk result (λ count. IfSome (S.content store.old) (λ c.
-        (length (row_pairs_in target.now.table c) ≡ count) × IsReady target.now query.now c (S.content store.new))) }
+    ensures ready { IfOk result (λ count. Turns S.Store store.old store.new
+        (λ c now. (length (row_pairs_in target.now.table c) ≡ count) × IsReady target.now query.now c now)) }
     ensures few { IfOk result (λ count. count ≤ 1000000) }
-    ensures ended { OnErr result (IfSome (S.content store.old) (λ c.
-        StopsFilling target.now query.now c (S.content store.new))) }
-    ensures shown { IfErr result (λ broke. IfSome (S.content store.old) (λ c. ShowsLeft target.now query.now c broke)) }
-    ensures over { ChangesNaming S.Store query.now.key store.old store.new result }
+    ensures ended { OnErr result (Turns S.Store store.old store.new (StopsFilling target.now query.now)) }
+    ensures shown { IfErr result (Shows S.Store store.old (ShowsLeft target.now query.now)) }
+    ensures leaves { LeavesNaming S.Store query.now.key store.old store.new result }
     ensures takes { IfOk result (λ count. Takes (left_ops count) (2 * count) meter.old meter.new) }
     ensures within { OnErr result (IsWithinBuild left_ops meter.old meter.new) }
     ensures within_own { OnErr result (IfSome (S.content store.old) (λ c.
@@ -213,7 +207,7 @@ pub fn build_index<S: Store<L>, L: Ledger>(
         TakesAtMost (build_bound (length (row_pairs_in target.now.table c))) meter.old meter.new)) }
     // Over every store, told or not. Damage that has no value names the definition's key: it was there,
     // or the ranges gave another number of rows than the count.
-    ensures over { ChangesNaming S.Store query.now.key store.old store.new result }
+    ensures leaves { LeavesNaming S.Store query.now.key store.old store.new result }
     ensures unchanged { IfOk result (λ built. built ≡ Built.TooMany → S.content store.new ≡ S.content store.old) }
     ensures few { IfOk result IsFew }
     ensures takes { IfOk result (λ built. TakesBuild built meter.old meter.new) }
@@ -246,12 +240,13 @@ pub fn complete_index<S: Store<L>, L: Ledger>(
         (length (row_pairs_in target.now.table c) ≡ count) × IsReady target.now query.now c (S.content store.new))) }
     ensures ended { OnErr result (IfSome (S.content store.old) (λ c.
         StopsFilling target.now query.now c (S.content store.new))) }
-    ensures shown { IfErr result (λ broke. IfSome (S.content store.old) (λ c. ShowsLeft target.now query.now c broke)) }
+    ensures shown { IfErr result (λ broke. IfSome (S.content store.old) (λ c.
+        ShowsLeft target.now query.now c broke)) }
     ensures within_own { OnErr result (IfSome (S.content store.old) (λ c.
         TakesAtMost (left_bound (length (row_pairs_in target.now.table c))) meter.old meter.new)) }
     // Over every store, told or not. A store may give other rows than it counts, and with them one range more.
     ensures few { IfOk result (λ count. count ≤ 1000000) }
-    ensures over { ChangesNaming S.Store query.now.key store.old store.new result }
+    ensures leaves { LeavesNaming S.Store query.now.key store.old store.new result }
     ensures takes { IfOk result (λ count. Takes (left_ops count) (2 * count) meter.old meter.new) }
     ensures within { OnErr result (IsWithinBuild left_ops meter.old meter.new) }
 {

@@ -7,7 +7,7 @@ ghost use Rattle.pq_store.specs.Content.{entry, written_content};
 ghost use Rattle.pq_store.specs.Counts.{charged_counts};
 ghost use Rattle.pq_intent.specs.Changing.{MayChange};
 ghost use Rattle.pq_builds.specs.Filling.{IsEntryIn, Enters, EntersSome, target_shape, IsNoRowPair, IsNoRowAmong, HasValue};
-ghost use Rattle.pq_builds.specs.Stages.{ChangesStore};
+ghost use Rattle.pq_builds.specs.Told.{Turns, LeavesStore};
 
 use crate::target::{Target, entry_of};
 use pq_base::{Bytes, NoMem};
@@ -29,7 +29,7 @@ pub(crate) fn put<S: Store<L>, L: Ledger>(
     ensures stopped { OnErr result (MayChange (key.now, Some value.now) (S.content store.old) (S.content store.new)) }
     ensures sound { IfErr result IsUndamaged }
     ensures meter { meter.new ≡ charged_counts meter.old 0 }
-    ensures over { ChangesStore S.Store store.old store.new result }
+    ensures leaves { LeavesStore S.Store store.old store.new result }
 {
     match store.write(alloc, key, Guard::Any, Some(value), meter) {
         Ok(_) => Ok(()),
@@ -72,15 +72,13 @@ fn write_entry<S: Store<L>, L: Ledger>(
     store: &mut S,
     meter: &mut Meter<L>,
 ) -> Result<(), Broke>
-    ensures enters { OnOk result (IfSome (S.content store.old) (λ c.
-        Enters target.now (entry pair.now ∷ []) c (S.content store.new))) }
-    ensures stopped { OnErr result (IfSome (S.content store.old) (λ c.
-        EntersSome target.now (entry pair.now ∷ []) c (S.content store.new))) }
+    ensures enters { OnOk result (Turns S.Store store.old store.new (Enters target.now (entry pair.now ∷ []))) }
+    ensures stopped { OnErr result (Turns S.Store store.old store.new (EntersSome target.now (entry pair.now ∷ []))) }
     ensures damage { IfErr result (IfDamaged (IsNoRowPair (target_shape target.now) (entry pair.now))) }
     ensures one { OnOk result (meter.new.ops ≡ meter.old.ops + 1) }
     ensures few { meter.new.ops ≤ meter.old.ops + 1 }
     ensures entries { meter.new.entries ≡ meter.old.entries }
-    ensures over { ChangesStore S.Store store.old store.new result }
+    ensures leaves { LeavesStore S.Store store.old store.new result }
 {
     match entry_in(alloc, target, pair)? {
         None => Err(Broke::Damaged(damage_of(alloc, pair)?)),
@@ -96,16 +94,14 @@ pub(crate) fn write_entries<S: Store<L>, L: Ledger>(
     store: &mut S,
     meter: &mut Meter<L>,
 ) -> Result<(), Broke>
-    ensures enters { OnOk result (IfSome (S.content store.old) (λ c.
-        Enters target.now (map entry pairs.now) c (S.content store.new))) }
-    ensures stopped { OnErr result (IfSome (S.content store.old) (λ c.
-        EntersSome target.now (map entry pairs.now) c (S.content store.new))) }
+    ensures enters { OnOk result (Turns S.Store store.old store.new (Enters target.now (map entry pairs.now))) }
+    ensures stopped { OnErr result (Turns S.Store store.old store.new (EntersSome target.now (map entry pairs.now))) }
     ensures damage { IfErr result (IfDamaged (IsNoRowAmong (target_shape target.now) (map entry pairs.now))) }
     ensures valued { IfErr result HasValue }
     ensures each { OnOk result (meter.new.ops ≡ meter.old.ops + length pairs.now) }
     ensures few { meter.new.ops ≤ meter.old.ops + length pairs.now }
     ensures entries { meter.new.entries ≡ meter.old.entries }
-    ensures over { ChangesStore S.Store store.old store.new result }
+    ensures leaves { LeavesStore S.Store store.old store.new result }
 {
     for pair in pairs {
         write_entry(alloc, target, pair, store, meter)?;

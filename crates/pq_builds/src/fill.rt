@@ -4,7 +4,8 @@ ghost use Rattle.pq_content.specs.Pairs.{is_in_space};
 ghost use Rattle.pq_store.specs.Breaks.{IfDamaged};
 ghost use Rattle.pq_store.specs.Content.{pairs_within, entry};
 ghost use Rattle.pq_builds.specs.Filling.{first_key, past_key, row_pairs_in, IsPast, Enters, EntersSome, Follows, target_shape, ShowsRange, IsNoRowAmong, fill_ops};
-ghost use Rattle.pq_builds.specs.Stages.{ChangesNaming, TakesOrLess};
+ghost use Rattle.pq_builds.specs.Told.{WithRows, Turns, Shows, LeavesNaming};
+ghost use Rattle.pq_builds.specs.Stages.{TakesOrLess};
 
 use crate::entries::write_entries;
 use crate::target::Target;
@@ -66,14 +67,14 @@ fn fill_next<S: Store<L>, L: Ledger>(
 ) -> Result<Bytes, Broke>
     requires low { is_in_space 2 low ≡ true }
     requires number { number ≤ 256 }
-    ensures follows { IfOk result (λ next. IfSome (S.content store.old) (λ c.
-        Follows target.now low number c (S.content store.new) next)) }
+    ensures follows { IfOk result (λ next. Turns S.Store store.old store.new
+        (λ c now. Follows target.now low number c now next)) }
     ensures next { IfOk result (λ next. is_in_space 2 next ≡ true) }
-    ensures stopped { OnErr result (IfSome (S.content store.old) (λ c.
-        EntersSome target.now (pairs_within c low (past_key target.now.table)) c (S.content store.new))) }
-    ensures damage { IfErr result (λ broke. IfSome (S.content store.old) (λ c.
-        ShowsRange (target_shape target.now) number (pairs_within c low (past_key target.now.table)) broke)) }
-    ensures over { ChangesNaming S.Store key.now store.old store.new result }
+    ensures stopped { OnErr result (Turns S.Store store.old store.new
+        (λ c. EntersSome target.now (pairs_within c low (past_key target.now.table)) c)) }
+    ensures damage { IfErr result (Shows S.Store store.old
+        (λ c. ShowsRange (target_shape target.now) number (pairs_within c low (past_key target.now.table)))) }
+    ensures leaves { LeavesNaming S.Store key.now store.old store.new result }
     ensures takes { TakesOrLess (number + 1) number 256 meter.old meter.new result }
     // Over a told content, at most the pairs that are there.
     ensures told { IfSome (S.content store.old) (λ c.
@@ -102,16 +103,14 @@ pub(crate) fn fill_rows<S: Store<L>, L: Ledger>(
     meter: &mut Meter<L>,
 ) -> Result<(), Broke>
     requires few { count ≤ 1000000 }
-    ensures enters { OnOk result (IfSome (S.content store.old) (λ c.
-        length (row_pairs_in target.now.table c) ≡ count
-        → Enters target.now (row_pairs_in target.now.table c) c (S.content store.new))) }
-    ensures stopped { OnErr result (IfSome (S.content store.old) (λ c.
-        EntersSome target.now (row_pairs_in target.now.table c) c (S.content store.new))) }
-    ensures damage { IfErr result (λ broke. IfSome (S.content store.old) (λ c.
-        length (row_pairs_in target.now.table c) ≡ count
-        → IfDamaged (IsNoRowAmong (target_shape target.now) (row_pairs_in target.now.table c)) broke)) }
+    ensures enters { OnOk result (Turns S.Store store.old store.new (WithRows target.now.table count
+        (λ c. Enters target.now (row_pairs_in target.now.table c) c))) }
+    ensures stopped { OnErr result (Turns S.Store store.old store.new
+        (λ c. EntersSome target.now (row_pairs_in target.now.table c) c)) }
+    ensures damage { IfErr result (Shows S.Store store.old (WithRows target.now.table count
+        (λ c. IfDamaged (IsNoRowAmong (target_shape target.now) (row_pairs_in target.now.table c))))) }
     // Over every store, told or not.
-    ensures over { ChangesNaming S.Store key.now store.old store.new result }
+    ensures leaves { LeavesNaming S.Store key.now store.old store.new result }
     ensures takes { TakesOrLess (fill_ops count) count (count + 256) meter.old meter.new result }
     ensures told { OnErr result (IfSome (S.content store.old) (λ c.
         length (row_pairs_in target.now.table c) ≡ count → meter.new.entries ≤ meter.old.entries + count)) }

@@ -15,6 +15,6 @@ loop-pair-preserved g c =
       enters = entries_more c.args.target.now c.args.pairs.now c.loop-pair.pair-index c.pair-item.result _ _ _ within c.pair-item.is c.loop-pair.invariant.enters c.in_ok-write_entry.ensures.enters;
       each = omega (arith, c.in_ok-write_entry.ensures.one);
       entries = omega arith;
-      untold = λ none. c.write_entry.ensures.over.untold (c.loop-pair.invariant.untold none);
-      later = omega (arith, c.write_entry.ensures.over.cause.later);
+      untold = λ none. c.write_entry.ensures.leaves.untold (c.loop-pair.invariant.untold none);
+      later = omega (arith, c.write_entry.ensures.leaves.cause.later);
     }

@@ -55,11 +55,11 @@ returns-clause-told g c = range_told c.args.target.now.table c.args.low c.items.
 pub returns-then-items-number-clause-stopped : goal.returns-then-items-number-clause-stopped
 returns-then-items-number-clause-stopped g c = some_same c.args.target.now c.args.target.now.table c.args.low (g.S.Store.content c.args.store.now) _ c.range.ensures.same
 
-pub returns-in_err-write_entries-clause-over : goal.returns-in_err-write_entries-clause-over
-returns-in_err-write_entries-clause-over g c =
+pub returns-in_err-write_entries-clause-leaves : goal.returns-in_err-write_entries-clause-leaves
+returns-in_err-write_entries-clause-leaves g c =
     let p = err_from_is_err_and c.from_residual-in_err-write_entries.result c.from_residual-in_err-write_entries.ensures.1 in
     record {
-      changes = search rules;
+      leaves = search rules;
       names = search rules;
       answered = rw (p.1, p.2) (among_answered g.S.Store.answers c.args.key.now (target_shape c.args.target.now) (map entry c.items-5.result.now) (rw c.items-5.ensures c.in-Ok.ensures.answered) _ c.in_err-write_entries.ensures.damage);
     }

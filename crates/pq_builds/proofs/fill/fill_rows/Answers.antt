@@ -24,8 +24,8 @@ loop-full-preserved g c = record {
   space = c.in_ok-low-2.ensures.next;
   each = omega (arith, c.in_ok-low-2.ensures.takes.takes.ops_are);
   entries = omega (arith, c.in_ok-low-2.ensures.takes.takes.entries_are);
-  untold = λ none. c.fill_next.ensures.over.changes.untold (c.loop-full.invariant.untold none);
-  later = omega (arith, c.fill_next.ensures.over.changes.cause.later);
+  untold = λ none. c.fill_next.ensures.leaves.leaves.untold (c.loop-full.invariant.untold none);
+  later = omega (arith, c.fill_next.ensures.leaves.leaves.cause.later);
 }
 
 pub returns-in_err-fill_next-clause-stopped : goal.returns-in_err-fill_next-clause-stopped
