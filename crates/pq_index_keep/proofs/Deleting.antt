@@ -1,6 +1,6 @@
 -- What a DELETE makes of settled pairs, and what its tests need.
 use Rattle.std.proofs.Common.{◌≡◌, ℕ, zero, suc, ◌+◌, ◌-◌, ◌<◌, true, false, ◌&&◌, List, [], ◌∷◌, length, map, drop, get_or, Option, Some, None, Result, Ok, refl, sym, ap, subst, ◌∙◌, arith, add-one}
-use Rattle.std.specs.Prelude.{All, IfErr, IfSome, MatchResult, option_map, nat_lt}
+use Rattle.std.specs.Prelude.{All, IfSome, MatchResult, option_map, nat_lt}
 use Rattle.std.specs.List.{AllByRecursion, position}
 use Rattle.std.specs.FinMap.{get}
 use Rattle.std.proofs.lemmas.Bool.{eq-eqb}
@@ -31,11 +31,7 @@ use Rattle.pq_store.specs.declared.damage.Damage.{Damage}
 use Rattle.std.proofs.lemmas.Option.{same_Some}
 use Rattle.pq_index_keep.specs.Effects.{effect, changes_of, condition_refusal, deleted_rows, removal_of, child_refusal, names_key, referenced_refusal, no_row}
 use Rattle.pq_calls.specs.Evidence.{IsRead, IsNoRow}
-use Rattle.pq_calls.specs.World.{World, Explains, where_told}
-use Rattle.pq_calls.proofs.Steps.{explained_undamaged}
-use Rattle.pq_store.specs.Breaks.{IsUndamaged}
-use Rattle.pq_store.specs.declared.damage.Broke.{Broke}
-use Rattle.std.proofs.lemmas.Result.{IfErr-weaker}
+use Rattle.pq_calls.specs.World.{where_told}
 use Rattle.pq_index_keep.specs.Promises.{HoldsRows, MakesRows, Plans}
 use Rattle.pq_index_keep.specs.Sound.{AreWritable, IsWritable, MayName}
 use Rattle.pq_calls.specs.declared.rows.StoredRow.{StoredRow}

@@ -1,5 +1,5 @@
 -- What calls that see pending changes spend.
-use Rattle.std.proofs.Common.{◌≤◌, ℕ, arith}
+use Rattle.std.proofs.Common.{◌≤◌, ℕ}
 use Rattle.pq_base.specs.declared.number.Bound.{Bound}
 use Rattle.pq_store.specs.declared.store.Store.{Ghosts}
 use Rattle.pq_pending.specs.declared.calls.PendingCalls.{PendingCalls}

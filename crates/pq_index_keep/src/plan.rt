@@ -1,5 +1,5 @@
 //! What a write changes in the store, or why it is refused.
-ghost use Rattle.std.specs.Prelude.{◌≡◌, ◌≤◌, ◌+◌, List, Some, None, option_map, IfOk, IfErr, IfSome};
+ghost use Rattle.std.specs.Prelude.{◌≡◌, ◌+◌, List, Some, None, option_map, IfOk, IfErr, IfSome};
 ghost use Rattle.std.specs.FinMap.{get as value_at};
 ghost use Rattle.pq_base.specs.Values.{AllFit};
 ghost use Rattle.pq_key_code.specs.KeyCode.{row_key};
@@ -7,7 +7,7 @@ ghost use Rattle.pq_schema.specs.Tables.{table_at};
 ghost use Rattle.pq_content.specs.Pairs.{Pair};
 ghost use Rattle.pq_content.specs.Tables.{Rows, AllOfKinds, IsTableNumber, key_types, types_of, shape_of, key_of, row_at};
 ghost use Rattle.pq_calls.specs.Evidence.{IsRead, IsNoRow};
-ghost use Rattle.pq_calls.specs.World.{no_damage, where_told};
+ghost use Rattle.pq_calls.specs.World.{Affords, no_damage, where_told};
 ghost use Rattle.pq_pending.specs.Calls.{seen};
 ghost use Rattle.pq_index_keep.specs.Bounds.{referring_count, children_behind, one_get, tested_limits, tested_behind, with_more};
 ghost use Rattle.pq_index_keep.specs.Keyed.{keyed_table, IsHeldAt};
@@ -15,7 +15,7 @@ ghost use Rattle.pq_index_keep.specs.Needs.{HasTests, AreIndexes};
 ghost use Rattle.pq_index_keep.specs.Promises.{HoldsRows, IsPlanOf, PlansAll, IsPlanWhere, IsHeldPlan, IsPlannedWrite};
 ghost use Rattle.pq_index_keep.specs.Rounds.{test_rounds};
 ghost use Rattle.pq_index_keep.specs.Sound.{AreWritable, IsInsert, IsDelete};
-ghost use Rattle.pq_index_keep.specs.Spending.{CanSpend, Spends, Stops};
+ghost use Rattle.pq_index_keep.specs.Spending.{CanSpend, Spends, SpendsOnChildren, Stops};
 
 use crate::changes::{puts, removals};
 use crate::held::condition_refusal;
@@ -91,7 +91,6 @@ pub(crate) fn plan_insert<S: Store<L>, L: Ledger>(
 ) -> Result<Planned, Broke>
     requires sound { AreWritable catalog.now.tables }
     requires insert { IsInsert catalog.now.tables number row.now }
-    requires removers { calls.old.pending.now.removers ≤ 256 }
     requires share { CanSpend calls.old
         (tested_behind calls.old.pending.now.removers Scope.All (table_at catalog.now.tables number)) }
     ensures spends { Spends S.Store calls.old calls.new
@@ -125,7 +124,7 @@ pub(crate) fn find_row<S: Store<L>, L: Ledger>(
     requires sound { AreWritable keyed.now.catalog.now.tables }
     requires number { IsTableNumber keyed.now.catalog.now.tables keyed.now.number }
     requires kinds { AllOfKinds (key_types (keyed_table keyed.now)) keyed.now.key.now }
-    requires share { CanSpend calls.old one_get }
+    requires share { Affords calls.old.allowance.now 1 1 }
     ensures spends { Spends S.Store calls.old calls.new one_get 1 }
     ensures stops { IfErr result
         (Stops S.Store (where_told (IsNoRow keyed.now.catalog.now.tables)) calls.old calls.new) }
@@ -164,13 +163,9 @@ fn plan_removal<S: Store<L>, L: Ledger>(
     requires number { IsTableNumber keyed.now.catalog.now.tables keyed.now.number }
     requires key_fits { AllFit (key_types (keyed_table keyed.now)) keyed.now.key.now }
     requires held { IsHeldAt keyed.now at row.now }
-    requires removers { calls.old.pending.now.removers ≤ 256 }
     requires share { CanSpend calls.old (children_behind calls.old.pending.now.removers
         keyed.now.catalog.now.tables keyed.now.number) }
-    ensures spends { Spends S.Store calls.old calls.new
-        (children_behind calls.old.pending.now.removers keyed.now.catalog.now.tables keyed.now.number)
-        (test_rounds calls.old.pending.now.changes
-        (referring_count keyed.now.catalog.now.tables keyed.now.number)) }
+    ensures spends { SpendsOnChildren S.Store calls.old calls.new keyed.now.catalog.now.tables keyed.now.number }
     ensures stops { IfErr result (Stops S.Store no_damage calls.old calls.new) }
     ensures plan { IfOk result (IsPlanWhere keyed.now.catalog.now.tables (seen S.content calls.old) keyed.now.number
         keyed.now.key.now row.now (λ conds. Write.Delete keyed.now.number keyed.now.key.now conds)) }
@@ -204,13 +199,9 @@ fn plan_held<S: Store<L>, L: Ledger>(
     requires sound { AreWritable keyed.now.catalog.now.tables }
     requires delete { IsDelete keyed.now.catalog.now.tables keyed.now.number keyed.now.key.now conds.now }
     requires held { IsHeldAt keyed.now at row.now }
-    requires removers { calls.old.pending.now.removers ≤ 256 }
     requires share { CanSpend calls.old (children_behind calls.old.pending.now.removers
         keyed.now.catalog.now.tables keyed.now.number) }
-    ensures spends { Spends S.Store calls.old calls.new
-        (children_behind calls.old.pending.now.removers keyed.now.catalog.now.tables keyed.now.number)
-        (test_rounds calls.old.pending.now.changes
-        (referring_count keyed.now.catalog.now.tables keyed.now.number)) }
+    ensures spends { SpendsOnChildren S.Store calls.old calls.new keyed.now.catalog.now.tables keyed.now.number }
     ensures stops { IfErr result (Stops S.Store no_damage calls.old calls.new) }
     ensures plan { IfOk result (IsHeldPlan keyed.now.catalog.now.tables (seen S.content calls.old)
         (Write.Delete keyed.now.number keyed.now.key.now conds.now) keyed.now.number keyed.now.key.now row.now) }
@@ -230,7 +221,6 @@ pub(crate) fn plan_delete<S: Store<L>, L: Ledger>(
 ) -> Result<PlannedWrite, Broke>
     requires sound { AreWritable keyed.now.catalog.now.tables }
     requires delete { IsDelete keyed.now.catalog.now.tables keyed.now.number keyed.now.key.now conds.now }
-    requires removers { calls.old.pending.now.removers ≤ 256 }
     requires share { CanSpend calls.old (with_more 1 (children_behind calls.old.pending.now.removers
         keyed.now.catalog.now.tables keyed.now.number)) }
     ensures spends { Spends S.Store calls.old calls.new

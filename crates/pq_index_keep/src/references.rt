@@ -10,9 +10,8 @@ ghost use Rattle.pq_calls.specs.World.{no_damage};
 ghost use Rattle.pq_index_keep.specs.NewRows.{NoneHolds};
 ghost use Rattle.pq_index_keep.specs.Promises.{HoldsRows};
 ghost use Rattle.pq_index_keep.specs.Refusals.{IsDeleteRefusal};
-ghost use Rattle.pq_index_keep.specs.Rounds.{test_rounds};
 ghost use Rattle.pq_index_keep.specs.Sound.{AreWritable, MayName};
-ghost use Rattle.pq_index_keep.specs.Spending.{CanSpend, Spends, Stops};
+ghost use Rattle.pq_index_keep.specs.Spending.{CanSpend, SpendsOnChildren, Stops};
 
 use crate::bound::refers;
 use crate::children::{ask_children, naming_place};
@@ -69,11 +68,8 @@ pub(crate) fn child_refusal<S: Store<L>, L: Ledger>(
     requires few { length tables.now ≤ 64 }
     requires sound { AreWritable tables.now }
     requires may { All (λ table. All (MayName table number key.now) table.foreign) tables.now }
-    requires removers { calls.old.pending.now.removers ≤ 256 }
     requires share { CanSpend calls.old (children_behind calls.old.pending.now.removers tables.now number) }
-    ensures spends { Spends S.Store calls.old calls.new
-        (children_behind calls.old.pending.now.removers tables.now number)
-        (test_rounds calls.old.pending.now.changes (referring_count tables.now number)) }
+    ensures spends { SpendsOnChildren S.Store calls.old calls.new tables.now number }
     ensures stops { IfErr result (Stops S.Store no_damage calls.old calls.new) }
     ensures can { IfOk result (λ refusal. IfSome refusal (IsDeleteRefusal tables.now)) }
     ensures passed { IfOk result (NoneHolds (seen S.content calls.old) (child_tests number key.now 1 tables.now)) }

@@ -13,7 +13,7 @@ ghost use Rattle.pq_index_keep.specs.Needs.{AsksTests, HasTests};
 ghost use Rattle.pq_index_keep.specs.NewRows.{tests_of, refusal_of, refusal_behind, NoneHolds, IsRefusedAs};
 ghost use Rattle.pq_index_keep.specs.Refusals.{IsInsertRefusal, IsTestRefusal, IsAskedRefusal};
 ghost use Rattle.pq_index_keep.specs.Rounds.{test_rounds};
-ghost use Rattle.pq_index_keep.specs.Spending.{CanSpend, Spends, Stops};
+ghost use Rattle.pq_index_keep.specs.Spending.{CanSpend, Spends, SpendsOnRow, Stops};
 
 use crate::limits::{ask_rooms, room_place};
 use crate::parents::{ask_parents, parent_place};
@@ -126,7 +126,6 @@ fn first_refusal<S: Store<L>, L: Ledger>(
     calls: &mut PendingCalls<S, L>,
 ) -> Result<Option<Refusal>, Broke>
     requires table { HasTests new.now.table.now }
-    requires removers { calls.old.pending.now.removers ≤ 256 }
     requires own { IsOwn new.now.number new.now.table.now new.now.row.now own }
     requires share { CanSpend calls.old (with_more (length own)
         (row_behind calls.old.pending.now.removers new.now.scope.now new.now.table.now)) }
@@ -159,12 +158,9 @@ pub(crate) fn tested_refusal<S: Store<L>, L: Ledger>(
     calls: &mut PendingCalls<S, L>,
 ) -> Result<Option<Refusal>, Broke>
     requires table { HasTests new.now.table.now }
-    requires removers { calls.old.pending.now.removers ≤ 256 }
     requires share { CanSpend calls.old
         (row_behind calls.old.pending.now.removers new.now.scope.now new.now.table.now) }
-    ensures spends { Spends S.Store calls.old calls.new
-        (row_behind calls.old.pending.now.removers new.now.scope.now new.now.table.now)
-        (test_rounds calls.old.pending.now.changes (tested_limits new.now.scope.now new.now.table.now.limits)) }
+    ensures spends { SpendsOnRow S.Store calls.old calls.new new.now.scope.now new.now.table.now }
     ensures stops { IfErr result (Stops S.Store no_damage calls.old calls.new) }
     ensures can { IfOk result (λ refusal. IfSome refusal (IsTestRefusal new.now.table.now)) }
     ensures passed { IfOk result (NoneHolds (seen S.content calls.old) (tests_of new.now)) }
@@ -196,7 +192,6 @@ pub(crate) fn insert_refusal<S: Store<L>, L: Ledger>(
 ) -> Result<Option<Refusal>, Broke>
     requires table { HasTests table.now }
     requires at { at.now ≡ row_key number (key_of table.now row.now) }
-    requires removers { calls.old.pending.now.removers ≤ 256 }
     requires share { CanSpend calls.old (tested_behind calls.old.pending.now.removers Scope.All table.now) }
     ensures spends { Spends S.Store calls.old calls.new
         (tested_behind calls.old.pending.now.removers Scope.All table.now)

@@ -16,7 +16,7 @@ ghost use Rattle.pq_index_keep.specs.Promises.{IsPlanWhere, IsHeldPlan, IsPlanne
 ghost use Rattle.pq_index_keep.specs.Refusals.{IsUpdateRefusal};
 ghost use Rattle.pq_index_keep.specs.Rounds.{test_rounds};
 ghost use Rattle.pq_index_keep.specs.Sound.{AreWritable, IsSet, IsUpdate};
-ghost use Rattle.pq_index_keep.specs.Spending.{CanSpend, Spends, Stops};
+ghost use Rattle.pq_index_keep.specs.Spending.{CanSpend, Spends, SpendsOnRow, Stops};
 ghost use Rattle.pq_index_keep.specs.Tested.{scope_of, with_sets};
 
 use crate::changes::updates;
@@ -91,12 +91,9 @@ fn update_refusal<S: Store<L>, L: Ledger>(
 ) -> Result<Option<Refusal>, Broke>
     requires table { HasTests new.now.table.now }
     requires row { IsCodable new.now.row.now }
-    requires removers { calls.old.pending.now.removers ≤ 256 }
     requires share { CanSpend calls.old
         (row_behind calls.old.pending.now.removers new.now.scope.now new.now.table.now) }
-    ensures spends { Spends S.Store calls.old calls.new
-        (row_behind calls.old.pending.now.removers new.now.scope.now new.now.table.now)
-        (test_rounds calls.old.pending.now.changes (tested_limits new.now.scope.now new.now.table.now.limits)) }
+    ensures spends { SpendsOnRow S.Store calls.old calls.new new.now.scope.now new.now.table.now }
     ensures stops { IfErr result (Stops S.Store no_damage calls.old calls.new) }
     ensures can { IfOk result (λ refusal. IfSome refusal (IsUpdateRefusal new.now.table.now)) }
     ensures passed { IfOk result (NoneHolds (seen S.content calls.old) (tests_of new.now)) }
@@ -130,13 +127,9 @@ fn plan_change<S: Store<L>, L: Ledger>(
     requires held { IsHeldAt keyed.now at row.now }
     requires sums { sum_refusal (keyed_table keyed.now) sets.now row.now ≡ None }
     requires new { new.now ≡ with_sets sets.now row.now }
-    requires removers { calls.old.pending.now.removers ≤ 256 }
     requires share { CanSpend calls.old
         (row_behind calls.old.pending.now.removers (scope_of sets.now) (keyed_table keyed.now)) }
-    ensures spends { Spends S.Store calls.old calls.new
-        (row_behind calls.old.pending.now.removers (scope_of sets.now) (keyed_table keyed.now))
-        (test_rounds calls.old.pending.now.changes
-        (tested_limits (scope_of sets.now) (keyed_table keyed.now).limits)) }
+    ensures spends { SpendsOnRow S.Store calls.old calls.new (scope_of sets.now) (keyed_table keyed.now) }
     ensures stops { IfErr result (Stops S.Store no_damage calls.old calls.new) }
     ensures plan { IfOk result (IsPlanWhere keyed.now.catalog.now.tables (seen S.content calls.old) keyed.now.number
         keyed.now.key.now row.now (λ conds. Write.Update keyed.now.number keyed.now.key.now sets.now conds)) }
@@ -180,13 +173,9 @@ fn plan_held<S: Store<L>, L: Ledger>(
     requires sound { AreWritable keyed.now.catalog.now.tables }
     requires update { IsUpdate keyed.now.catalog.now.tables keyed.now.number keyed.now.key.now sets.now conds.now }
     requires held { IsHeldAt keyed.now at row.now }
-    requires removers { calls.old.pending.now.removers ≤ 256 }
     requires share { CanSpend calls.old
         (row_behind calls.old.pending.now.removers (scope_of sets.now) (keyed_table keyed.now)) }
-    ensures spends { Spends S.Store calls.old calls.new
-        (row_behind calls.old.pending.now.removers (scope_of sets.now) (keyed_table keyed.now))
-        (test_rounds calls.old.pending.now.changes
-        (tested_limits (scope_of sets.now) (keyed_table keyed.now).limits)) }
+    ensures spends { SpendsOnRow S.Store calls.old calls.new (scope_of sets.now) (keyed_table keyed.now) }
     ensures stops { IfErr result (Stops S.Store no_damage calls.old calls.new) }
     ensures plan { IfOk result (λ made. IsHeldPlan keyed.now.catalog.now.tables (seen S.content calls.old)
         (Write.Update keyed.now.number keyed.now.key.now sets.now conds.now)
@@ -217,7 +206,6 @@ pub(crate) fn plan_update<S: Store<L>, L: Ledger>(
 ) -> Result<PlannedWrite, Broke>
     requires sound { AreWritable keyed.now.catalog.now.tables }
     requires update { IsUpdate keyed.now.catalog.now.tables keyed.now.number keyed.now.key.now sets.now conds.now }
-    requires removers { calls.old.pending.now.removers ≤ 256 }
     requires share { CanSpend calls.old
         (tested_behind calls.old.pending.now.removers (scope_of sets.now) (keyed_table keyed.now)) }
     ensures spends { Spends S.Store calls.old calls.new

@@ -33,7 +33,6 @@ fn plan_by<S: Store<L>, L: Ledger>(
 ) -> Result<PlannedWrite, Broke>
     requires sound { AreWritable catalog.now.tables }
     requires write { IsWrite catalog.now.tables write.now }
-    requires removers { calls.old.pending.now.removers ≤ 256 }
     requires share { CanSpend calls.old
         (tests_behind calls.old.pending.now.removers catalog.now.tables write.now) }
     ensures spends { Spends S.Store calls.old calls.new

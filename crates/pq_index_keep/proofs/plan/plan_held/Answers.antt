@@ -1,4 +1,4 @@
-use Rattle.std.proofs.Common.{◌≡◌, ◌∙◌, List, Some, None, sym, inl, inr}
+use Rattle.std.proofs.Common.{◌≡◌, ◌∙◌, List, Some, sym, inl, inr}
 use Rattle.std.proofs.lemmas.Result.{IfOk-weaker}
 use Rattle.pq_schema.specs.Tables.{table_at}
 use Rattle.pq_pending.specs.Calls.{seen}

@@ -13,14 +13,14 @@ pub first_held-requires-clause-few : goal.first_held-requires-clause-few
 first_held-requires-clause-few g c =
     let are : c.items.result.now ≡ child_tests c.args.number c.args.key.now 1 c.args.tables.now =
     c.items.ensures ∙ c.in_ok-ask_children.ensures ∙ ap (λ (ts : List Test). ts ++ child_tests c.args.number c.args.key.now 1 c.args.tables.now) c.new-tests.ensures in
-    children_countable c.args.calls.now.pending.now.changes c.args.calls.now.pending.now.removers c.known.ensures.thin c.requires.removers c.args.number c.args.key.now c.args.tables.now c.items.result.now are
+    children_countable c.args.calls.now.pending.now.changes c.args.calls.now.pending.now.removers c.known.ensures.thin c.requires.share.removers c.args.number c.args.key.now c.args.tables.now c.items.result.now are
 
 pub first_held-requires-clause-share : goal.first_held-requires-clause-share
 first_held-requires-clause-share g c =
     let are : c.items.result.now ≡ child_tests c.args.number c.args.key.now 1 c.args.tables.now =
     c.items.ensures ∙ c.in_ok-ask_children.ensures ∙ ap (λ (ts : List Test). ts ++ child_tests c.args.number c.args.key.now 1 c.args.tables.now) c.new-tests.ensures in
     let cheap = children_cheap c.args.calls.now.pending.now.changes c.args.calls.now.pending.now.removers c.known.ensures.thin c.args.number c.args.key.now c.args.tables.now c.items.result.now are in
-    record { ops_left = omega (arith, cheap.few, c.requires.share.ops_left); entries_left = omega (arith, cheap.short, c.requires.share.entries_left) }
+    record { ops_left = omega (arith, cheap.few, c.requires.share.left.ops_left); entries_left = omega (arith, cheap.short, c.requires.share.left.entries_left) }
 
 pub returns-in_err-first_held-clause-spends : goal.returns-in_err-first_held-clause-spends
 returns-in_err-first_held-clause-spends g c =

@@ -7,13 +7,13 @@ use Rattle.pq_index_keep.proofs.refusals.first_refusal.Goals as goal
 
 pub first_held-requires-clause-few : goal.first_held-requires-clause-few
 first_held-requires-clause-few g c =
-    tests_countable c.args.calls.now.pending.now.changes c.args.calls.now.pending.now.removers c.known.ensures.thin c.requires.removers c.args.own c.items.result.now c.args.new.now.scope.now c.args.new.now.old.now c.args.new.now.number c.args.new.now.table.now c.args.new.now.row.now c.requires.own c.requires.table.some_rows c.requires.table.asks.is_table.sizes
+    tests_countable c.args.calls.now.pending.now.changes c.args.calls.now.pending.now.removers c.known.ensures.thin c.requires.share.removers c.args.own c.items.result.now c.args.new.now.scope.now c.args.new.now.old.now c.args.new.now.number c.args.new.now.table.now c.args.new.now.row.now c.requires.own c.requires.table.some_rows c.requires.table.asks.is_table.sizes
     (c.items.ensures ∙ c.in_ok-asked.ensures.tests)
 
 pub first_held-requires-clause-share : goal.first_held-requires-clause-share
 first_held-requires-clause-share g c =
     let cheap = tests_cheap c.args.calls.now.pending.now.changes c.args.calls.now.pending.now.removers c.known.ensures.thin c.args.own c.items.result.now c.args.new.now.scope.now c.args.new.now.old.now c.args.new.now.number c.args.new.now.table.now c.args.new.now.row.now c.requires.own (c.items.ensures ∙ c.in_ok-asked.ensures.tests) in
-    record { ops_left = omega (arith, cheap.few, c.requires.share.ops_left); entries_left = omega (arith, cheap.short, c.requires.share.entries_left) }
+    record { ops_left = omega (arith, cheap.few, c.requires.share.left.ops_left); entries_left = omega (arith, cheap.short, c.requires.share.left.entries_left) }
 
 pub returns-in_err-first_held-clause-spends : goal.returns-in_err-first_held-clause-spends
 returns-in_err-first_held-clause-spends g c =

@@ -19,7 +19,7 @@ first_refusal-requires-clause-own g c = subst (λ (own : List Test). IsOwn c.arg
 pub first_refusal-requires-clause-share : goal.first_refusal-requires-clause-share
 first_refusal-requires-clause-share g c =
     let one : length c.in_ok-own.own ≡ 1 = ap length c.in_ok-own.ensures in
-    record { ops_left = omega (arith, one, c.requires.share.ops_left); entries_left = omega (arith, one, c.requires.share.entries_left) }
+    record { removers = c.requires.share.removers; left = record { ops_left = omega (arith, one, c.requires.share.left.ops_left); entries_left = omega (arith, one, c.requires.share.left.entries_left) } }
 
 pub returns-clause-spends : goal.returns-clause-spends
 returns-clause-spends g c =

@@ -17,7 +17,7 @@ first_refusal-requires-clause-own g c =
 pub first_refusal-requires-clause-share : goal.first_refusal-requires-clause-share
 first_refusal-requires-clause-share g c =
     let none : length c.new-own.result ≡ 0 = ap length c.new-own.ensures in
-    record { ops_left = omega (arith, none, c.requires.share.ops_left); entries_left = omega (arith, none, c.requires.share.entries_left) }
+    record { removers = c.requires.share.removers; left = record { ops_left = omega (arith, none, c.requires.share.left.ops_left); entries_left = omega (arith, none, c.requires.share.left.entries_left) } }
 
 pub returns-clause-spends : goal.returns-clause-spends
 returns-clause-spends g c =
