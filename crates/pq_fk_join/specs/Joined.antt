@@ -15,10 +15,12 @@ use Rattle.pq_store.specs.declared.damage.Broke.{Broke}
 use Rattle.pq_calls.specs.Evidence.{IsRead, IsUnreadRow}
 use Rattle.pq_content.specs.Pairs.{Pair, HoldsRows}
 use Rattle.pq_content.specs.Tables.{stored_code}
+use Rattle.pq_nodes.specs.Inverse.{IsLookup}
 use Rattle.pq_operands.specs.Ties.{cells_tied}
 use Rattle.pq_plan.specs.Meaning.{key_of}
 use Rattle.pq_plan.specs.Running.{matching, looked_up}
 use Rattle.pq_plan.specs.Answer.{question, row_of}
+use Rattle.pq_scan.specs.declared.request.Request.{Request}
 
 -- ---- what is read of any content
 
@@ -91,3 +93,26 @@ abbrev pub AddsLookedUp : Option Content → List Table → Query → List Value
 AddsLookedUp told tables query params rel inputs before after =
     (rows : Rows) (others : List Pair) → HoldsRows told tables rows others →
     after ≡ before ++ looked_up (question tables query rows params) rel inputs
+
+-- ---- the same for what is asked
+
+abbrev pub IsLookupFor : Request → ℕ → Type 0
+IsLookupFor request rel = IsLookup request.catalog.now.tables request.query.now rel
+
+abbrev pub tied_for : Request → ℕ → List (List Value) → Option (List ℕ)
+tied_for request rel input =
+    tied_at request.catalog.now.tables request.query.now request.params.now rel input
+
+abbrev pub AreJoinedFor : Request → ℕ → List (List (List Value)) → List (List (List Value)) → Content → Type 0
+AreJoinedFor request rel inputs found content =
+    AreJoined request.catalog.now.tables request.query.now request.params.now rel inputs found content
+
+abbrev pub AddsJoinedFor : Option Content → Request → ℕ → List (List (List Value)) → List (List (List Value))
+    → List (List (List Value)) → Type 0
+AddsJoinedFor told request rel inputs before after =
+    AddsJoined told request.catalog.now.tables request.query.now request.params.now rel inputs before after
+
+abbrev pub AddsLookedUpFor : Option Content → Request → ℕ → List (List (List Value)) → List (List (List Value))
+    → List (List (List Value)) → Type 0
+AddsLookedUpFor told request rel inputs before after =
+    AddsLookedUp told request.catalog.now.tables request.query.now request.params.now rel inputs before after

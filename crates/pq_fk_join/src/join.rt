@@ -9,13 +9,13 @@ ghost use Rattle.pq_store.specs.Breaks.{IsAnswered};
 ghost use Rattle.pq_store.specs.Rounds.{IsValueOf, IsValueAnswered};
 ghost use Rattle.pq_calls.specs.Calls.{Uses, Fails};
 ghost use Rattle.pq_calls.specs.Evidence.{IsRead};
-ghost use Rattle.pq_calls.specs.World.{Affords, no_damage, where_told, world};
+ghost use Rattle.pq_calls.specs.World.{Affords, no_damage, world};
 ghost use Rattle.pq_plan.specs.Nodes.{lookup};
-ghost use Rattle.pq_nodes.specs.Inverse.{IsLookup};
-ghost use Rattle.pq_nodes.specs.Operators.{IsAsked, IsReadyNode, AreInputs, AffordsNode, ReadsNode, AreFound, AnswersNode, ShowsRead, StopsReading, IsSoundOverRows};
+ghost use Rattle.pq_nodes.specs.Operators.{IsAsked, IsReadyNode, AreInputs, AffordsNode, ReadsNode, AreFound, AnswersNode, StopsReading, IsSoundOverRows};
 ghost use Rattle.pq_nodes.specs.Rounds.{node_rounds};
 ghost use Rattle.pq_operands.specs.Ties.{cells_tied};
-ghost use Rattle.pq_fk_join.specs.Joined.{tied_at, IsUnreadFrom, AddsRead, AreJoined, AddsJoined, AddsLookedUp};
+ghost use Rattle.pq_scan.specs.Request.{IsAskedFor, IsNodeFor, AreInputsFor, AreFoundFor, AnswersFor, Spends, SpendsNode, StopsRead};
+ghost use Rattle.pq_fk_join.specs.Joined.{tied_for, IsLookupFor, IsUnreadFrom, AddsRead, AreJoined, AreJoinedFor, AddsJoinedFor, AddsLookedUpFor};
 
 use pq_base::{Bytes, ColType, Dir, List, NoMem, Row, Value, no_value};
 use pq_calls::{Calls, answered_row, types_of};
@@ -23,6 +23,7 @@ use pq_key_code::{put_component, row_front};
 use pq_operands::tied_value;
 use pq_plan::Combo;
 use pq_predicates::{table_number, table_of};
+use pq_scan::Request;
 use pq_schema::{Catalog, Query, Table};
 use pq_store::{Allowance, Broke, Meter, Store};
 use std::alloc::Global;
@@ -59,19 +60,24 @@ fn put_tied(alloc: Global, out: &mut Bytes, value: Option<&Value>) -> Result<boo
 fn put_tied_values(
     alloc: Global,
     out: &mut Bytes,
-    query: &Query,
-    params: &Row,
+    request: &Request<'_>,
     rel: u8,
     input: &Combo,
     cols: &[u8],
 ) -> Result<bool, NoMem>
     ensures plain { IfOk result (λ plain.
-        plain ≡ not (has_null (cells_tied query.now params.now rel input.now cols.now))) }
+        plain ≡ not (has_null (cells_tied request.now.query.now request.now.params.now rel
+        input.now cols.now))) }
     ensures code { IfOk result (λ plain. IsTrue plain → out.new ≡ out.old
-        ++ code_of (replicate (length cols.now) Asc) (cells_tied query.now params.now rel input.now cols.now)) }
+        ++ code_of (replicate (length cols.now) Asc) (cells_tied request.now.query.now request.now.params.now rel
+        input.now cols.now)) }
 {
     for col in cols {
-        if !put_tied(alloc, out, tied_value(query, params, rel, input, *col))? {
+        if !put_tied(
+            alloc,
+            out,
+            tied_value(request.query, request.params, rel, input, *col),
+        )? {
             return Ok(false);
         }
     }
@@ -81,28 +87,19 @@ fn put_tied_values(
 /// The key in the store of the row whose key equalities tie behind the input; none where a tied value is NULL.
 fn partner_at(
     alloc: Global,
-    catalog: &Catalog,
-    query: &Query,
-    params: &Row,
+    request: &Request<'_>,
     rel: u8,
     input: &Combo,
 ) -> Result<Option<Bytes>, NoMem>
-    requires asked { IsAsked catalog.now.tables query.now params.now }
-    requires lookup { IsLookup catalog.now.tables query.now rel }
-    ensures { IfOk result (λ at. at ≡ tied_at catalog.now.tables query.now params.now rel input.now) }
+    requires asked { IsAskedFor request.now }
+    requires lookup { IsLookupFor request.now rel }
+    ensures { IfOk result (λ at. at ≡ tied_for request.now rel input.now) }
 {
+    let Request { catalog, query, .. } = *request;
     catalog.known();
     let table = table_of(catalog, query, rel);
     let mut key = row_front(alloc, table_number(query, rel))?;
-    if put_tied_values(
-        alloc,
-        &mut key,
-        query,
-        params,
-        rel,
-        input,
-        table.key.items(),
-    )? {
+    if put_tied_values(alloc, &mut key, request, rel, input, table.key.items())? {
         Ok(Some(key))
     } else {
         Ok(None)
@@ -112,19 +109,17 @@ fn partner_at(
 /// The same for each input.
 fn partners_at(
     alloc: Global,
-    catalog: &Catalog,
-    query: &Query,
-    params: &Row,
+    request: &Request<'_>,
     rel: u8,
     inputs: &[Combo],
 ) -> Result<List<Option<Bytes>>, NoMem>
-    requires asked { IsAsked catalog.now.tables query.now params.now }
-    requires lookup { IsLookup catalog.now.tables query.now rel }
-    ensures { IfOk result (λ asked. asked ≡ map (tied_at catalog.now.tables query.now params.now rel) inputs.now) }
+    requires asked { IsAskedFor request.now }
+    requires lookup { IsLookupFor request.now rel }
+    ensures { IfOk result (λ asked. asked ≡ map (tied_for request.now rel) inputs.now) }
 {
     let mut asked = List::with_room(alloc, inputs.len())?;
     for input in inputs {
-        let at = partner_at(alloc, catalog, query, params, rel, input)?;
+        let at = partner_at(alloc, request, rel, input)?;
         asked.push(alloc, at)?;
     }
     Ok(asked)
@@ -227,36 +222,30 @@ fn only(inputs: List<Combo>) -> (Combo, List<Combo>)
 /// The input where it has a partner, followed by it: one call asks for it.
 fn join_single<S: Store<L>, L: Ledger>(
     alloc: Global,
-    catalog: &Catalog,
-    query: &Query,
-    params: &Row,
+    request: &Request<'_>,
     rel: u8,
     inputs: List<Combo>,
     calls: &mut Calls<S, L>,
 ) -> Result<List<Combo>, Broke>
-    requires asked { IsAsked catalog.now.tables query.now params.now }
-    requires lookup { IsLookup catalog.now.tables query.now rel }
-    requires inputs { AreInputs catalog.now.tables query.now rel inputs }
+    requires asked { IsAskedFor request.now }
+    requires lookup { IsLookupFor request.now rel }
+    requires inputs { AreInputsFor request.now rel inputs }
     requires single { length inputs ≡ 1 }
     requires share { Affords calls.old.allowance.now 1 1 }
-    ensures uses { Uses S.content S.faults calls.old calls.new 1 1 }
-    ensures cause { IfErr result (Fails (where_told (ShowsRead catalog.now.tables))
-        S.content S.faults calls.old calls.new) }
-    ensures rounds { S.rounds calls.new.store.now ≤ S.rounds calls.old.store.now + 1 }
-    ensures answered { IfErr result (IsAnswered S.answers) }
-    ensures found { IfOk result (AreFound catalog.now.tables query.now rel 1 (lookup rel)) }
-    ensures codes { IfOk result (AddsJoined (S.content calls.old.store.now)
-        catalog.now.tables query.now params.now rel inputs []) }
-    ensures answer { IfOk result (AddsLookedUp (S.content calls.old.store.now)
-        catalog.now.tables query.now params.now rel inputs []) }
+    ensures spends { Spends S.Store calls.old calls.new 1 1 1 }
+    ensures stops { IfErr result (StopsRead S.Store request.now.catalog.now.tables calls.old calls.new) }
+    ensures found { IfOk result (AreFoundFor request.now rel 1 (lookup rel)) }
+    ensures codes { IfOk result (AddsJoinedFor (S.content calls.old.store.now) request.now rel inputs []) }
+    ensures answer { IfOk result (AddsLookedUpFor (S.content calls.old.store.now) request.now rel inputs []) }
 {
+    let Request { catalog, query, .. } = *request;
     catalog.known();
     let table = table_of(catalog, query, rel);
     let mut types = [ColType::Int; MOST_COLUMNS];
     put_types(&mut types, table);
     let types = &types[..table.columns.items().len()];
     let (input, mut found) = only(inputs);
-    let asked = partner_at(alloc, catalog, query, params, rel, &input)?;
+    let asked = partner_at(alloc, request, rel, &input)?;
     let code = asked_code(alloc, &asked, calls)?;
     join_one(alloc, table, types, input, &asked, &code, &mut found)?;
     Ok(found)
@@ -265,32 +254,26 @@ fn join_single<S: Store<L>, L: Ledger>(
 /// The inputs that have a partner, each followed by it: all are asked at once.
 fn join_several<S: Store<L>, L: Ledger>(
     alloc: Global,
-    catalog: &Catalog,
-    query: &Query,
-    params: &Row,
+    request: &Request<'_>,
     rel: u8,
     inputs: List<Combo>,
     calls: &mut Calls<S, L>,
 ) -> Result<List<Combo>, Broke>
-    requires asked { IsAsked catalog.now.tables query.now params.now }
-    requires lookup { IsLookup catalog.now.tables query.now rel }
-    requires inputs { AreInputs catalog.now.tables query.now rel inputs }
+    requires asked { IsAskedFor request.now }
+    requires lookup { IsLookupFor request.now rel }
+    requires inputs { AreInputsFor request.now rel inputs }
     requires share { Affords calls.old.allowance.now (length inputs) (length inputs) }
-    ensures uses { Uses S.content S.faults calls.old calls.new (length inputs) (length inputs) }
-    ensures cause { IfErr result (Fails (where_told (ShowsRead catalog.now.tables))
-        S.content S.faults calls.old calls.new) }
-    ensures rounds { S.rounds calls.new.store.now ≤ S.rounds calls.old.store.now + 1 }
-    ensures answered { IfErr result (IsAnswered S.answers) }
-    ensures found { IfOk result (AreFound catalog.now.tables query.now rel (length inputs) (lookup rel)) }
-    ensures codes { IfOk result (AddsJoined (S.content calls.old.store.now)
-        catalog.now.tables query.now params.now rel inputs []) }
-    ensures answer { IfOk result (AddsLookedUp (S.content calls.old.store.now)
-        catalog.now.tables query.now params.now rel inputs []) }
+    ensures spends { Spends S.Store calls.old calls.new (length inputs) (length inputs) 1 }
+    ensures stops { IfErr result (StopsRead S.Store request.now.catalog.now.tables calls.old calls.new) }
+    ensures found { IfOk result (AreFoundFor request.now rel (length inputs) (lookup rel)) }
+    ensures codes { IfOk result (AddsJoinedFor (S.content calls.old.store.now) request.now rel inputs []) }
+    ensures answer { IfOk result (AddsLookedUpFor (S.content calls.old.store.now) request.now rel inputs []) }
 {
+    let Request { catalog, query, .. } = *request;
     catalog.known();
     let table = table_of(catalog, query, rel);
     let types = types_of(alloc, table)?;
-    let asked = partners_at(alloc, catalog, query, params, rel, inputs.items())?;
+    let asked = partners_at(alloc, request, rel, inputs.items())?;
     let mut found = List::with_room(alloc, inputs.items().len())?;
     let codes = calls.gets(alloc, asked.items())?;
     let mut place = 0;
@@ -312,32 +295,61 @@ fn join_several<S: Store<L>, L: Ledger>(
 /// The same; a single input has a way of its own, which makes no lists.
 fn join_each<S: Store<L>, L: Ledger>(
     alloc: Global,
-    catalog: &Catalog,
-    query: &Query,
-    params: &Row,
+    request: &Request<'_>,
     rel: u8,
     inputs: List<Combo>,
     calls: &mut Calls<S, L>,
 ) -> Result<List<Combo>, Broke>
-    requires asked { IsAsked catalog.now.tables query.now params.now }
-    requires lookup { IsLookup catalog.now.tables query.now rel }
-    requires inputs { AreInputs catalog.now.tables query.now rel inputs }
+    requires asked { IsAskedFor request.now }
+    requires lookup { IsLookupFor request.now rel }
+    requires inputs { AreInputsFor request.now rel inputs }
     requires share { Affords calls.old.allowance.now (length inputs) (length inputs) }
-    ensures uses { Uses S.content S.faults calls.old calls.new (length inputs) (length inputs) }
-    ensures cause { IfErr result (Fails (where_told (ShowsRead catalog.now.tables))
-        S.content S.faults calls.old calls.new) }
-    ensures rounds { S.rounds calls.new.store.now ≤ S.rounds calls.old.store.now + 1 }
-    ensures answered { IfErr result (IsAnswered S.answers) }
-    ensures found { IfOk result (AreFound catalog.now.tables query.now rel (length inputs) (lookup rel)) }
-    ensures codes { IfOk result (AddsJoined (S.content calls.old.store.now)
-        catalog.now.tables query.now params.now rel inputs []) }
-    ensures answer { IfOk result (AddsLookedUp (S.content calls.old.store.now)
-        catalog.now.tables query.now params.now rel inputs []) }
+    ensures spends { Spends S.Store calls.old calls.new (length inputs) (length inputs) 1 }
+    ensures stops { IfErr result (StopsRead S.Store request.now.catalog.now.tables calls.old calls.new) }
+    ensures found { IfOk result (AreFoundFor request.now rel (length inputs) (lookup rel)) }
+    ensures codes { IfOk result (AddsJoinedFor (S.content calls.old.store.now) request.now rel inputs []) }
+    ensures answer { IfOk result (AddsLookedUpFor (S.content calls.old.store.now) request.now rel inputs []) }
 {
     if inputs.items().len() == 1 {
-        join_single(alloc, catalog, query, params, rel, inputs, calls)
+        join_single(alloc, request, rel, inputs, calls)
     } else {
-        join_several(alloc, catalog, query, params, rel, inputs, calls)
+        join_several(alloc, request, rel, inputs, calls)
+    }
+}
+
+/// Each input followed by the row of the relation whose key equalities tie, in the order of the inputs. An input
+/// without such a row falls out.
+pub fn join_inputs<S: Store<L>, L: Ledger>(
+    alloc: Global,
+    request: &Request<'_>,
+    rel: u8,
+    inputs: List<Combo>,
+    calls: &mut Calls<S, L>,
+) -> Result<List<Combo>, Broke>
+    requires asked { IsAskedFor request.now }
+    requires ready { IsNodeFor request.now (lookup rel) }
+    requires inputs { AreInputsFor request.now rel inputs }
+    requires share { AffordsNode calls.old.allowance.now (length inputs) (lookup rel) }
+    ensures spends { SpendsNode S.Store calls.old calls.new (length inputs) (lookup rel) }
+    ensures stops { IfErr result (StopsRead S.Store request.now.catalog.now.tables calls.old calls.new) }
+    ensures found { IfOk result (AreFoundFor request.now rel (length inputs) (lookup rel)) }
+    // Over any content that is told, no row is passed over, and none stands in for another.
+    ensures codes { IfOk result (λ found. IfSome (S.content calls.old.store.now)
+        (AreJoinedFor request.now rel inputs found)) }
+    ensures answer { IfOk result (AnswersFor (S.content calls.old.store.now) request.now inputs (lookup rel)) }
+{
+    join_each(alloc, request, rel, inputs, calls)
+}
+
+/// What is asked from the first row on.
+fn from_start<'a>(catalog: &'a Catalog, query: &'a Query, params: &'a Row) -> Request<'a>
+    ensures { result ≡ record { catalog = catalog.entry; query = query.entry; params = params.entry; after = None } }
+{
+    Request {
+        catalog,
+        query,
+        params,
+        after: None,
     }
 }
 
@@ -373,10 +385,11 @@ pub fn fk_join<S: Store<L>, L: Ledger>(
     ensures answered { IfErr result (IsAnswered S.answers) }
     ensures undamaged { IfErr result (IsSoundOverRows (S.content store.old) catalog.now.tables) }
 {
+    let request = from_start(catalog, query, params);
     let mut calls = Calls {
         store,
         allowance,
         meter,
     };
-    join_each(alloc, catalog, query, params, rel, inputs, &mut calls)
+    join_inputs(alloc, &request, rel, inputs, &mut calls)
 }

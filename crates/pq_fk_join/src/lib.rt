@@ -6,4 +6,4 @@
 
 mod join;
 
-pub use join::fk_join;
+pub use join::{fk_join, join_inputs};

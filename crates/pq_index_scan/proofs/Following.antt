@@ -1,6 +1,6 @@
 -- Inputs that are followed by the rows of their ranges, one after the other.
 use Rattle.std.proofs.Common.{◌≡◌, ℕ, ◌+◌, ◌-◌, ◌*◌, ◌<◌, ◌≤◌, false, List, [], ◌∷◌, ◌++◌, length, get_or, map, take, Option, None, IsPermutation, sym, ap, ◌∙◌, subst, arith}
-use Rattle.std.specs.Prelude.{Result, Ok, Err, IfOk, IfErr, IfSome}
+use Rattle.std.specs.Prelude.{Result, Ok, Err, IfOk, IfSome}
 use Rattle.std.specs.List.{AllByRecursion}
 use Rattle.std.proofs.lemmas.Grind.{flat_map-append}
 use Rattle.std.proofs.lemmas.List.{append-nil, length-append, length-map, take_more}
@@ -21,7 +21,7 @@ use Rattle.pq_store.specs.Content.{Content}
 use Rattle.pq_store.specs.Counts.{AllowedCounts}
 use Rattle.pq_store.specs.declared.damage.Broke.{Broke}
 use Rattle.pq_store.specs.declared.store.Store.{Ghosts}
-use Rattle.pq_calls.specs.World.{World, Affords}
+use Rattle.pq_calls.specs.World.{Affords}
 use Rattle.pq_calls.specs.declared.calls.Calls.{Calls}
 use Rattle.pq_content.specs.Pairs.{Pair, HoldsRows}
 use Rattle.pq_content.specs.Tables.{first_columns}
@@ -29,10 +29,9 @@ use Rattle.pq_plan.specs.Answer.{Question, question}
 use Rattle.pq_plan.specs.Cost.{is_primary_access}
 use Rattle.pq_plan.specs.Running.{matching, ranged, limit_columns}
 use Rattle.pq_nodes.specs.Combos.{FitsTables}
-use Rattle.pq_nodes.specs.Operators.{AreInputs, AffordsNode, AreFound, AnswersNode, StopsReading, IsSoundOverRows}
+use Rattle.pq_nodes.specs.Operators.{AreInputs, AffordsNode, AreFound, AnswersNode}
 use Rattle.pq_nodes.specs.Paid.{node_cost}
 use Rattle.pq_nodes.specs.Rounds.{access_rounds}
-use Rattle.pq_nodes.proofs.Undamaged.{read_undamaged}
 use Rattle.pq_scan.specs.Request.{Spends, SpendsNode}
 use Rattle.pq_index_scan.specs.declared.limit.LimitRange.{LimitRange}
 use Rattle.pq_index_scan.specs.Ranged.{own_limit, limit_node, node_range, IsRangeOf, AreFollowed, AreRanged, AddsRanged}

@@ -10,8 +10,8 @@ invariant-loop-input g l = record {
   whole : l.yielded ++ into_iter_items l.input-iterator ≡ l.fn.inputs;
   place : l.place ≡ length l.yielded;
   few : length l.found ≤ length l.yielded;
-  left : AllByRecursion (FitsTables l.catalog.tables l.query (l.rel - 1)) (into_iter_items l.input-iterator);
-  fit : AllByRecursion (FitsTables l.catalog.tables l.query l.rel) l.found;
-  codes : AddsJoined (g.S.Store.content l.fn.calls.store.now) l.catalog.tables l.query l.params l.rel l.yielded [] l.found;
-  answer : AddsLookedUp (g.S.Store.content l.fn.calls.store.now) l.catalog.tables l.query l.params l.rel l.yielded [] l.found;
+  left : AllByRecursion (FitsTables l.request.catalog.now.tables l.request.query.now (l.rel - 1)) (into_iter_items l.input-iterator);
+  fit : AllByRecursion (FitsTables l.request.catalog.now.tables l.request.query.now l.rel) l.found;
+  codes : AddsJoined (g.S.Store.content l.fn.calls.store.now) l.request.catalog.now.tables l.request.query.now l.request.params.now l.rel l.yielded [] l.found;
+  answer : AddsLookedUp (g.S.Store.content l.fn.calls.store.now) l.request.catalog.now.tables l.request.query.now l.request.params.now l.rel l.yielded [] l.found;
 }
