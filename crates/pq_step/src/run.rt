@@ -1,5 +1,5 @@
 //! RUN: a page of a query that was defined.
-ghost use Rattle.std.specs.Prelude.{◌≡◌, ◌<◌, length, map, option_copied, IfOk, IfErr, Ok};
+ghost use Rattle.std.specs.Prelude.{◌≡◌, ◌<◌, length, map, IfOk, IfErr, Ok};
 ghost use Rattle.pq_base.specs.Values.{AllFit};
 ghost use Rattle.pq_schema.specs.Schema.{query_at};
 ghost use Rattle.pq_store.specs.Breaks.{IsAnswered};
@@ -15,6 +15,7 @@ use pq_base::{List, NoMem, Row};
 use pq_catalog::PlannedCatalog;
 use pq_pages::{Page, run_page};
 use pq_print::{End, Line, Report};
+use pq_statement::RunRequest;
 use pq_store::{Broke, Meter, Store};
 use std::alloc::Global;
 use std::sync::ledger::Ledger;
@@ -52,36 +53,34 @@ pub(crate) fn page_report(alloc: Global, number: u32, page: Page) -> Result<Repo
     })
 }
 
-/// Runs the query of this definition's number, whose parameters fit, behind a position.
+/// Runs a query with parameters that fit, behind a position.
 #[inline(always)]
 pub(crate) fn run_query<S: Store<L>, L: Ledger>(
     alloc: Global,
     planned: PlannedCatalog,
     number: u32,
-    query: u16,
-    params: &Row,
-    after: Option<&Row>,
+    run: &RunRequest,
     store: &mut S,
     meter: &mut Meter<L>,
 ) -> Result<(PlannedCatalog, Report), Broke>
-    requires number { IsQueryNumber planned query }
-    requires fits { AllFit (query_at planned query).params params.now }
-    requires cursor { IsCursor planned.tables (query_at planned query) (option_copied after) }
+    requires number { IsQueryNumber planned run.now.query }
+    requires fits { AllFit (query_at planned run.now.query).params run.now.params }
+    requires cursor { IsCursor planned.tables (query_at planned run.now.query) run.now.after }
     ensures step { Promises number
-        (Ok (Runs (running_with query (query_at planned query) params.now (option_copied after.entry))))
+        (Ok (Runs (running_with run.now.query (query_at planned run.now.query) run.now.params run.now.after)))
         (S.content store.old) (S.content store.new) planned meter.old meter.new result }
-    ensures rounds { AsksQuery planned.tables (query_at planned query) (S.rounds store.old) (S.rounds store.new) }
+    ensures rounds { AsksQuery planned.tables (query_at planned run.now.query) (S.rounds store.old) (S.rounds store.new) }
     ensures cause { HasBrokeCause (S.faults store.old) (S.faults store.new) result }
     ensures answered { IfErr result (IsAnswered S.answers) }
 {
-    let plan = planned.kept_plan(query);
+    let plan = planned.kept_plan(run.query);
     let page = run_page(
         alloc,
         planned.catalog(),
-        query,
+        run.query,
         plan,
-        params,
-        after,
+        &run.params,
+        run.after.as_ref(),
         store,
         meter,
     )?;

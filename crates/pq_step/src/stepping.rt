@@ -180,18 +180,7 @@ fn act<S: Store<L>, L: Ledger>(
             let report = plan_report(alloc, &planned, number, &plan)?;
             Ok((planned, report))
         }
-        Request::Run(run) => {
-            run_query(
-                alloc,
-                planned,
-                number,
-                run.query,
-                &run.params,
-                run.after.as_ref(),
-                store,
-                meter,
-            )
-        }
+        Request::Run(run) => run_query(alloc, planned, number, &run, store, meter),
         Request::Count(def) => create_counter(alloc, planned, number, def, store, meter),
         Request::Read(read) => read_count(alloc, planned, number, &read, store, meter),
         Request::Show => Ok(show(alloc, planned, number)?),

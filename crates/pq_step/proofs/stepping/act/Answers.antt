@@ -36,7 +36,7 @@ pub run_query-requires-clause-fits : goal.run_query-requires-clause-fits
 run_query-requires-clause-fits g c = (subst (λ (r : Request). Asks c.args.planned r c.requires.0) c.in-Run.is c.requires.1).1.fits
 
 pub run_query-requires-clause-cursor : goal.run_query-requires-clause-cursor
-run_query-requires-clause-cursor g c = rw c.as_ref.ensures.value ((subst (λ (r : Request). Asks c.args.planned r c.requires.0) c.in-Run.is c.requires.1).1.cursor)
+run_query-requires-clause-cursor g c = (subst (λ (r : Request). Asks c.args.planned r c.requires.0) c.in-Run.is c.requires.1).1.cursor
 
 pub create_counter-requires : goal.create_counter-requires
 create_counter-requires g c = (subst (λ (r : Request). Asks c.args.planned r c.requires.0) c.in-Count.is c.requires.1).0
@@ -78,7 +78,7 @@ returns-in_ok-report-in-Explain-clause-step g c asked asks =
 pub returns-in-Run-clause-step : goal.returns-in-Run-clause-step
 returns-in-Run-clause-step g c asked asks =
     let a = subst (λ (r : Request). Asks c.args.planned r asked) c.in-Run.is asks in
-    rw (a.2 ∙ ap (action_from Runs) a.1.is, ← c.as_ref.ensures.value) c.run_query.ensures.step
+    rw (a.2 ∙ ap (action_from Runs) a.1.is) c.run_query.ensures.step
 
 pub returns-in-Count-clause-step : goal.returns-in-Count-clause-step
 returns-in-Count-clause-step g c asked asks =
