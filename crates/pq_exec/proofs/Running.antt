@@ -71,16 +71,6 @@ after_grows count (sort ∷ rest) = after_grows count rest
 after_grows count (cut k ∷ rest) = after_grows count rest
 after_grows count (project ∷ rest) = after_grows count rest
 
-none_read : (tables : List Table) (query : Query) (granted : Bound) (list : List Node) → 1 ≤ length query.relations → IsRunnable tables query granted list → after_nodes 0 list ≡ 0 → list ≡ []
-none_read tables query granted [] some runnable none = refl
-none_read tables query granted (lookup rel ∷ rest) some runnable none = let more = after_grows 1 rest in absurd (omega arith)
-none_read tables query granted (limit_range rel limit n access ∷ rest) some runnable none = let more = after_grows 1 rest in absurd (omega arith)
-none_read tables query granted (stop_scan rel k access ∷ rest) some runnable none = let more = after_grows 1 rest in absurd (omega arith)
-none_read tables query granted (keep rel ∷ rest) some runnable none = let low = runnable.each.0.from_one in let at = runnable.order.0 in absurd (omega arith)
-none_read tables query granted (sort ∷ rest) some runnable none = let whole = runnable.whole.0 in absurd (omega arith)
-none_read tables query granted (cut k ∷ rest) some runnable none = let whole = runnable.whole.0 in absurd (omega arith)
-none_read tables query granted (project ∷ rest) some runnable none = let whole = runnable.whole.0 in absurd (omega arith)
-
 -- ---- rounds
 
 -- a tree makes the rounds of its input, and those of its outermost node
@@ -151,10 +141,6 @@ module _ (tables : List Table) (query : Query) (tree input : Physical) (over : n
 
   pub node_inputs : (inputs : List (List (List Value))) → AreRun tables query (nodes input) inputs → AllByRecursion (FitsTables tables query (rows_before query node)) inputs
   node_inputs inputs given = subst (λ n. AllByRecursion (FitsTables tables query n) inputs) (sym input_rows) given.fit
-
-  -- the first relation is read for the combination of no relation
-  pub node_first : 1 ≤ length query.relations → (inputs : List (List (List Value))) → AreRun tables query (nodes input) inputs → rows_before query node ≡ 0 → inputs ≡ [] ∷ []
-  node_first some inputs given none = given.unit (none_read tables query (cost tree) (nodes input) some parts.0 (sym input_rows ∙ none))
 
   -- the input's cost and the node's are within the tree's
   node_paid : (inputs : List (List (List Value))) → AreRun tables query (nodes input) inputs → IsAtMost (plus (cost input) (node_cost (length inputs) node)) (cost tree)

@@ -13,11 +13,11 @@ ghost use Rattle.pq_nodes.specs.Rounds.{plan_rounds};
 ghost use Rattle.pq_runnable.specs.Runnable.{IsRunnablePlan};
 ghost use Rattle.pq_exec.specs.Execution.{AnswersQuery, IsAnswerIn, IsLastPosition, IsPage, RisesByUsed, RisesWithin};
 
-use crate::request::Request;
 use crate::tree::run;
 use pq_base::{List, NoMem, Row, Used};
 use pq_local_ops::{position_of, take_selected};
 use pq_plan::{BoundedPlan, Combo};
+use pq_scan::Request;
 use pq_schema::{Catalog, Query};
 use pq_store::{Allowance, Broke, Meter, Store};
 use std::alloc::Global;

@@ -6,7 +6,6 @@
 
 mod executing;
 mod node;
-mod request;
 mod tree;
 
 pub use executing::{Answer, execute};

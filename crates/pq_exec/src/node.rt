@@ -1,24 +1,22 @@
 //! One node of a plan, run over its inputs.
-ghost use Rattle.std.specs.Prelude.{◌≡◌, ◌-◌, ◌≤◌, ◌+◌, [], ◌∷◌, length, option_copied, IfOk, IfErr, IfSome};
+ghost use Rattle.std.specs.Prelude.{◌≤◌, ◌+◌, length, option_copied, IfOk, IfErr, IfSome};
 ghost use Rattle.std.specs.List.{AllByRecursion};
 ghost use Rattle.pq_store.specs.Breaks.{IsAnswered};
 ghost use Rattle.pq_calls.specs.World.{world};
-ghost use Rattle.pq_plan.specs.Nodes.{stop_scan};
 ghost use Rattle.pq_nodes.specs.Combos.{FitsTables};
-ghost use Rattle.pq_nodes.specs.Operators.{IsAsked, IsReadyNode, AreFound, AreInputs, IsCursor, AffordsNode, ReadsNode};
+ghost use Rattle.pq_nodes.specs.Operators.{IsAsked, IsReadyNode, IsCursor, AffordsNode, ReadsNode};
 ghost use Rattle.pq_nodes.specs.Operators.{AnswersNode, StopsReading, IsSoundOverRows};
 ghost use Rattle.pq_nodes.specs.Rounds.{node_rounds};
 ghost use Rattle.pq_exec.specs.Execution.{top_node, rows_before, AreGiven, ArePastCursor, IsCutOf, IsFoundIn};
 ghost use Rattle.pq_local_ops.specs.Lists.{ArePart};
 
-use crate::request::Request;
 use pq_base::{List, NoMem};
+use pq_calls::Calls;
 use pq_fk_join::fk_join;
-use pq_index_scan::{index_scan, limit_range};
+use pq_index_scan::limit_range;
 use pq_local_ops::{first_k, keep_after, keep_matching, sort_combos};
 use pq_plan::{Combo, Physical};
-use pq_schema::Access;
-use pq_sorted_join::sorted_join;
+use pq_scan::{Request, scan_inputs};
 use pq_store::{Allowance, Broke, Meter, Store};
 use std::alloc::Global;
 use std::sync::ledger::Ledger;
@@ -63,60 +61,6 @@ fn cut_page(
     Ok(first_k(behind_cursor(alloc, request, combos)?, k))
 }
 
-/// The first `k` rows by position strictly after the cursor, of a relation behind its inputs. The first
-/// relation is read behind the one combination of no relation.
-fn read_stop<S: Store<L>, L: Ledger>(
-    alloc: Global,
-    request: &Request<'_>,
-    rel: u8,
-    k: u16,
-    access: Access,
-    inputs: List<Combo>,
-    store: &mut S,
-    allowance: &mut Allowance,
-    meter: &mut Meter<L>,
-) -> Result<List<Combo>, Broke>
-    requires asked { IsAsked request.now.catalog.now.tables request.now.query.now request.now.params.now }
-    requires ready { IsReadyNode request.now.catalog.now.tables request.now.query.now (stop_scan rel k access) }
-    requires inputs { AreInputs request.now.catalog.now.tables request.now.query.now rel inputs }
-    requires first { rel - 1 ≡ 0 → inputs ≡ [] ∷ [] }
-    requires cursor { IsCursor request.now.catalog.now.tables request.now.query.now (option_copied request.now.after) }
-    requires share { AffordsNode allowance.old (length inputs) (stop_scan rel k access) }
-    ensures codes { IfOk result (λ found. IfSome (S.content store.old) (IsFoundIn request.now.catalog.now.tables
-        request.now.query.now request.now.params.now (option_copied request.now.after) inputs
-        (stop_scan rel k access) found)) }
-    ensures answer { IfOk result (AnswersNode (S.content store.old) request.now.catalog.now.tables
-        request.now.query.now request.now.params.now (option_copied request.now.after)
-        inputs (stop_scan rel k access)) }
-    ensures reads { ReadsNode (world (S.content store.old) (S.faults store.old) allowance.old meter.old)
-        (world (S.content store.new) (S.faults store.new) allowance.new meter.new)
-        (length inputs) (stop_scan rel k access) }
-    ensures found { IfOk result (AreFound request.now.catalog.now.tables request.now.query.now
-        rel (length inputs) (stop_scan rel k access)) }
-    ensures cause { IfErr result (StopsReading request.now.catalog.now.tables
-        (world (S.content store.old) (S.faults store.old) allowance.old meter.old)
-        (world (S.content store.new) (S.faults store.new) allowance.new meter.new)) }
-    ensures rounds { S.rounds store.new ≤ S.rounds store.old + node_rounds (stop_scan rel k access) }
-    ensures answered { IfErr result (IsAnswered S.answers) }
-    ensures undamaged { IfErr result (IsSoundOverRows (S.content store.old) request.now.catalog.now.tables) }
-{
-    let Request {
-        catalog,
-        query,
-        params,
-        after,
-    } = *request;
-    if rel == 1 {
-        index_scan(
-            alloc, catalog, query, params, rel, access, after, k, store, allowance, meter,
-        )
-    } else {
-        sorted_join(
-            alloc, catalog, query, params, rel, access, inputs, after, k, store, allowance, meter,
-        )
-    }
-}
-
 /// What the outermost node of a tree makes of its inputs. A tree without nodes leaves them as they are.
 #[inline(always)]
 pub(crate) fn run_node<S: Store<L>, L: Ledger>(
@@ -133,7 +77,6 @@ pub(crate) fn run_node<S: Store<L>, L: Ledger>(
     requires inputs { AllByRecursion
         (FitsTables request.now.catalog.now.tables request.now.query.now
         (rows_before request.now.query.now (top_node tree.now))) inputs }
-    requires first { rows_before request.now.query.now (top_node tree.now) ≡ 0 → inputs ≡ [] ∷ [] }
     requires cursor { IsCursor request.now.catalog.now.tables request.now.query.now (option_copied request.now.after) }
     requires share { AffordsNode allowance.old (length inputs) (top_node tree.now) }
     ensures codes { IfOk result (λ found. IfSome (S.content store.old) (IsFoundIn request.now.catalog.now.tables
@@ -171,9 +114,22 @@ pub(crate) fn run_node<S: Store<L>, L: Ledger>(
         } => limit_range(
             alloc, catalog, query, params, *rel, *limit, *access, inputs, store, allowance, meter,
         ),
-        Physical::StopScan { rel, k, access, .. } => read_stop(
-            alloc, request, *rel, *k, *access, inputs, store, allowance, meter,
-        ),
+        Physical::StopScan { rel, k, access, .. } => {
+            let mut calls = Calls {
+                store,
+                allowance,
+                meter,
+            };
+            scan_inputs(
+                alloc,
+                request,
+                *rel,
+                *access,
+                inputs.items(),
+                *k,
+                &mut calls,
+            )
+        }
         Physical::Filter { rel, .. } => Ok(keep_matching(query, params, *rel, inputs)?),
         Physical::Sort { .. } => Ok(sort_combos(alloc, catalog, query, inputs)?),
         Physical::Cut { k, .. } => Ok(cut_page(alloc, request, *k, inputs)?),

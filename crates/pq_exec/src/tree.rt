@@ -10,9 +10,9 @@ ghost use Rattle.pq_runnable.specs.Runnable.{IsRunnable};
 ghost use Rattle.pq_exec.specs.Execution.{IsInputOf, AreFoundIn, AreRun, RunAnswers};
 
 use crate::node::run_node;
-use crate::request::Request;
 use pq_base::{List, NoMem};
 use pq_plan::{Combo, Physical};
+use pq_scan::Request;
 use pq_store::{Allowance, Broke, Meter, Store};
 use std::alloc::Global;
 use std::sync::ledger::Ledger;

@@ -1,6 +1,6 @@
 use Rattle.std.proofs.Common.{arith}
 use Rattle.std.proofs.lemmas.Result.{IfOk-weaker}
-use Rattle.pq_exec.proofs.Running.{input_smaller, input_runnable, input_share, input_reads, input_rounds, tree_rounds, node_ready, node_first, node_inputs, node_share, tree_reads, tree_given, tree_found, tree_answers}
+use Rattle.pq_exec.proofs.Running.{input_smaller, input_runnable, input_share, input_reads, input_rounds, tree_rounds, node_ready, node_inputs, node_share, tree_reads, tree_given, tree_found, tree_answers}
 use Rattle.pq_exec.proofs.tree.+run.Goals as goal
 
 pub run-requires : goal.run-requires
@@ -26,11 +26,6 @@ pub run_node-requires-clause-inputs : goal.run_node-requires-clause-inputs
 run_node-requires-clause-inputs g t c =
     node_inputs c.args.request.now.catalog.now.tables c.args.request.now.query.now c.args.tree.now c.in-Some.input.now c.in-Some.ensures c.requires.runnable
     c.in_ok-inputs-in-Some.inputs c.in_ok-inputs-in-Some.ensures.given
-
-pub run_node-requires-clause-first : goal.run_node-requires-clause-first
-run_node-requires-clause-first g t c =
-    node_first c.args.request.now.catalog.now.tables c.args.request.now.query.now c.args.tree.now c.in-Some.input.now c.in-Some.ensures c.requires.runnable
-    c.requires.asked.resolved.some_relations c.in_ok-inputs-in-Some.inputs c.in_ok-inputs-in-Some.ensures.given
 
 pub run_node-requires-clause-share : goal.run_node-requires-clause-share
 run_node-requires-clause-share g t c =
