@@ -48,7 +48,7 @@ returns-in_err-build_index-clause-broken g c =
     let shows : (content : Option Content) → IfSome content (λ c'. ShowsBuild c.in_ok-target.target c.in_ok-defined.defined c' broke) → IfSome content (λ c'. TellsEvidence schema c' broke) =
     λ content is. build_shown content schema new (new_query_of schema c.args.query.now) broke valid (target_there schema c.args.query.now new valid c.requires).0 refl
     (moved (λ t q. IfSome content (λ c'. ShowsBuild t q c' broke)) index query is) in
-    let lasting = shows_still_told c.in_ok-target.target c.in_ok-defined.defined (subst (λ (q : NewQuery). is_of_rows q.key ≡ false) (sym query) refl) old now broke e.untold e.ended e.shown in
+    let lasting = shows_still_told c.in_ok-target.target c.in_ok-defined.defined (subst (λ (q : NewQuery). is_of_rows q.key ≡ false) (sym query) refl) old now broke e.leaves.leaves.untold e.ended e.shown in
     rw (p.1, p.2) (λ number best. build_broken number c.args.query.now new best schema c.requires old now _ _ broke
     (moved (λ t q. (origin : Origin) → HoldsOrigin origin t q old → Leaves origin t q now) index query e.stopped)
     (moved (λ t q. (origin : Origin) → HoldsOrigin origin t q old → IsUndamaged broke) index query e.sound)

@@ -46,7 +46,7 @@ returns-in_err-commit-in-Changes-clause-step g c =
 pub returns-in_err-commit-in-Changes-clause-answered : goal.returns-in_err-commit-in-Changes-clause-answered
 returns-in_err-commit-in-Changes-clause-answered g c =
     let p = err_from_is_err_and c.from_residual-in_err-commit-in-Changes.result c.from_residual-in_err-commit-in-Changes.ensures.1 in
-    rw (p.1, p.2) (plain_answered c.args.planned c.args.writes.now g.S.Store.answers c.in_err-commit-in-Changes.field-0.0 c.in_err-commit-in-Changes.ensures.answered)
+    rw (p.1, p.2) (plain_answered c.args.planned c.args.writes.now g.S.Store.answers c.in_err-commit-in-Changes.field-0.0 c.in_err-commit-in-Changes.ensures.within.answered)
 
 pub returns-in-Refused-clause-step : goal.returns-in-Refused-clause-step
 returns-in-Refused-clause-step g c =
@@ -69,7 +69,7 @@ returns-in_ok-commit-in-Changes-clause-step g c =
     let schema = c.catalog-catalog.result.now in
     let is = batch_is_change c.args.number c.args.writes.now schema c.batch_bound-bound.result c.batch_bound-bound.ensures.bound in
     rw (c.done_report-report.ensures, c.used-in-Changes.ensures, ← c.catalog-catalog.ensures) (made_done c.args.number _ schema _ _ is c.in-Changes.changes _ _ _ _ _ _ _ _ _ _ _ _ _ _ c.grant-allowance.ensures c.in_ok-place.ensures.reads
-    (batch_made c.args.number c.args.writes.now schema _ c.batch_bound-bound.ensures.bound c.in-Changes.changes _ _ c.in-Changes.is c.in_ok-place.ensures.answer) c.in_ok-commit-in-Changes.ensures.made c.in_ok-commit-in-Changes.ensures.spends c.in_ok-commit-in-Changes.ensures.whole
+    (batch_made c.args.number c.args.writes.now schema _ c.batch_bound-bound.ensures.bound c.in-Changes.changes _ _ c.in-Changes.is c.in_ok-place.ensures.answer) c.in_ok-commit-in-Changes.ensures.made c.in_ok-commit-in-Changes.ensures.within.spends c.in_ok-commit-in-Changes.ensures.whole
     (batch_planned c.args.number c.args.writes.now schema _ c.batch_bound-bound.ensures.bound c.in-Changes.changes _ _ c.in-Changes.is c.in_ok-place.ensures.own))
 
 pub returns-in_err-place-clause-rounds : goal.returns-in_err-place-clause-rounds
@@ -93,7 +93,7 @@ returns-in_err-commit-in-Changes-clause-rounds g c =
     let whole : AreWhole most c.in-Changes.changes = subst (IsBatchWithin most) c.in-Changes.is c.in_ok-place.ensures.plan in
     let fewer : write_ops (length c.in-Changes.changes) ≤ write_ops most = commits_within (length c.in-Changes.changes) most whole.some whole.few in
     let few = c.in_ok-place.ensures.rounds in
-    let made = c.in_err-commit-in-Changes.ensures.rounds in
+    let made = c.in_err-commit-in-Changes.ensures.within.rounds in
     rw (← c.catalog-catalog.ensures) (omega (arith, few, made, fewer))
 
 pub returns-in_ok-commit-in-Changes-clause-rounds : goal.returns-in_ok-commit-in-Changes-clause-rounds
@@ -102,5 +102,5 @@ returns-in_ok-commit-in-Changes-clause-rounds g c =
     let whole : AreWhole most c.in-Changes.changes = subst (IsBatchWithin most) c.in-Changes.is c.in_ok-place.ensures.plan in
     let fewer : write_ops (length c.in-Changes.changes) ≤ write_ops most = commits_within (length c.in-Changes.changes) most whole.some whole.few in
     let few = c.in_ok-place.ensures.rounds in
-    let made = c.in_ok-commit-in-Changes.ensures.rounds in
+    let made = c.in_ok-commit-in-Changes.ensures.within.rounds in
     rw (← c.catalog-catalog.ensures) (omega (arith, few, made, fewer))

@@ -46,7 +46,7 @@ returns-in_ok-commit-in-Changes-clause-step g c =
     let schema = c.catalog-catalog.result.now in
     let is = write_is_change c.args.number c.args.write.now schema c.whole_bound-bound.result c.whole_bound-bound.ensures.is in
     rw (c.done_report-report.ensures, c.used-in-Changes.ensures, ← c.catalog-catalog.ensures) (made_done c.args.number _ schema _ _ is c.in-Changes.changes _ _ _ _ _ _ _ _ _ _ _ _ _ _ c.grant-allowance.ensures c.in_ok-why.ensures.reads
-    (write_made c.args.number c.args.write.now schema _ c.whole_bound-bound.ensures.is c.in-Changes.changes _ _ c.in-Changes.is c.in_ok-why.ensures.answer) c.in_ok-commit-in-Changes.ensures.made c.in_ok-commit-in-Changes.ensures.spends c.in_ok-commit-in-Changes.ensures.whole
+    (write_made c.args.number c.args.write.now schema _ c.whole_bound-bound.ensures.is c.in-Changes.changes _ _ c.in-Changes.is c.in_ok-why.ensures.answer) c.in_ok-commit-in-Changes.ensures.made c.in_ok-commit-in-Changes.ensures.within.spends c.in_ok-commit-in-Changes.ensures.whole
     (write_planned c.args.number c.args.write.now schema _ c.whole_bound-bound.ensures.is c.in-Changes.changes _ _ c.in-Changes.is c.in_ok-why.ensures.own))
 
 pub returns-in_err-why-clause-rounds : goal.returns-in_err-why-clause-rounds
@@ -65,7 +65,7 @@ returns-in_err-commit-in-Changes-clause-rounds g c =
     let whole : AreWhole most c.in-Changes.changes = subst (IsWholeWithin most) c.in-Changes.is c.in_ok-why.ensures.plan in
     let fewer : write_ops (length c.in-Changes.changes) ≤ write_ops most = commits_within (length c.in-Changes.changes) most whole.some whole.few in
     let few = c.in_ok-why.ensures.rounds in
-    let made = c.in_err-commit-in-Changes.ensures.rounds in
+    let made = c.in_err-commit-in-Changes.ensures.within.rounds in
     rw (← c.catalog-catalog.ensures) (omega (arith, few, made, fewer))
 
 pub returns-in_ok-commit-in-Changes-clause-rounds : goal.returns-in_ok-commit-in-Changes-clause-rounds
@@ -74,5 +74,5 @@ returns-in_ok-commit-in-Changes-clause-rounds g c =
     let whole : AreWhole most c.in-Changes.changes = subst (IsWholeWithin most) c.in-Changes.is c.in_ok-why.ensures.plan in
     let fewer : write_ops (length c.in-Changes.changes) ≤ write_ops most = commits_within (length c.in-Changes.changes) most whole.some whole.few in
     let few = c.in_ok-why.ensures.rounds in
-    let made = c.in_ok-commit-in-Changes.ensures.rounds in
+    let made = c.in_ok-commit-in-Changes.ensures.within.rounds in
     rw (← c.catalog-catalog.ensures) (omega (arith, few, made, fewer))
