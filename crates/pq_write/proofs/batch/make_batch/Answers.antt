@@ -39,8 +39,8 @@ returns-in_err-commit-in-Changes-clause-step g c =
     let whole : AreWhole most c.in-Changes.changes = subst (IsBatchWithin most) c.in-Changes.is c.in_ok-place.ensures.plan in
     let is = batch_is_change c.args.number c.args.writes.now schema c.batch_bound-bound.result c.batch_bound-bound.ensures.bound in
     let e = c.in_err-commit-in-Changes.ensures in
-    rw (p.1, p.2, ← c.catalog-catalog.ensures) (commit_broke c.args.number _ schema _ _ is c.in-Changes.changes c.in_err-commit-in-Changes.field-0.0 _ _ _ _ _ _ _ _ _ _ _ _ _ _ c.grant-allowance.ensures c.in_ok-place.ensures.reads e.spends
-    (batch_made c.args.number c.args.writes.now schema _ c.batch_bound-bound.ensures.bound c.in-Changes.changes _ _ c.in-Changes.is c.in_ok-place.ensures.answer) e.stopped e.sound e.damage e.kept (λ is. e.memory (ap Err is)) whole.intended e.spends.few e.partway
+    rw (p.1, p.2, ← c.catalog-catalog.ensures) (commit_broke c.args.number _ schema _ _ is c.in-Changes.changes c.in_err-commit-in-Changes.field-0.0 _ _ _ _ _ _ _ _ _ _ _ _ _ _ c.grant-allowance.ensures c.in_ok-place.ensures.reads e.within.spends
+    (batch_made c.args.number c.args.writes.now schema _ c.batch_bound-bound.ensures.bound c.in-Changes.changes _ _ c.in-Changes.is c.in_ok-place.ensures.answer) e.stopped e.sound e.damage e.kept (λ is. e.memory (ap Err is)) whole.intended e.within.spends.few e.partway
     (batch_planned c.args.number c.args.writes.now schema _ c.batch_bound-bound.ensures.bound c.in-Changes.changes _ _ c.in-Changes.is c.in_ok-place.ensures.own))
 
 pub returns-in_err-commit-in-Changes-clause-answered : goal.returns-in_err-commit-in-Changes-clause-answered

@@ -30,8 +30,8 @@ returns-in_err-commit-in-Changes-clause-step g c =
     let whole : AreWhole most c.in-Changes.changes = subst (IsWholeWithin most) c.in-Changes.is c.in_ok-why.ensures.plan in
     let is = write_is_change c.args.number c.args.write.now schema c.whole_bound-bound.result c.whole_bound-bound.ensures.is in
     let e = c.in_err-commit-in-Changes.ensures in
-    rw (p.1, p.2, ← c.catalog-catalog.ensures) (commit_broke c.args.number _ schema _ _ is c.in-Changes.changes c.in_err-commit-in-Changes.field-0.0 _ _ _ _ _ _ _ _ _ _ _ _ _ _ c.grant-allowance.ensures c.in_ok-why.ensures.reads e.spends
-    (write_made c.args.number c.args.write.now schema _ c.whole_bound-bound.ensures.is c.in-Changes.changes _ _ c.in-Changes.is c.in_ok-why.ensures.answer) e.stopped e.sound e.damage e.kept (λ is. e.memory (ap Err is)) whole.intended e.spends.few e.partway
+    rw (p.1, p.2, ← c.catalog-catalog.ensures) (commit_broke c.args.number _ schema _ _ is c.in-Changes.changes c.in_err-commit-in-Changes.field-0.0 _ _ _ _ _ _ _ _ _ _ _ _ _ _ c.grant-allowance.ensures c.in_ok-why.ensures.reads e.within.spends
+    (write_made c.args.number c.args.write.now schema _ c.whole_bound-bound.ensures.is c.in-Changes.changes _ _ c.in-Changes.is c.in_ok-why.ensures.answer) e.stopped e.sound e.damage e.kept (λ is. e.memory (ap Err is)) whole.intended e.within.spends.few e.partway
     (write_planned c.args.number c.args.write.now schema _ c.whole_bound-bound.ensures.is c.in-Changes.changes _ _ c.in-Changes.is c.in_ok-why.ensures.own))
 
 pub returns-in-Refused-clause-step : goal.returns-in-Refused-clause-step
